@@ -1,9 +1,10 @@
 -- Tests, and what they say. `_and_` and `_or_` are the library's `_&&_` and `_||_`, nested to the right.
-use mathlib.Core.Path.{_≡_, refl}
+use mathlib.Core.Path.{_≡_, refl, ap, subst}
 use mathlib.Core.Bool.{Bool, true, false, _&&_, _||_}
 use Prim.Native.Nat.{ℕ, _≤_, _<_}
 use native.Mathlib.Omega.{arith}
 use lib.Dec.{T, ltb, leb, eqb, ltb→lt, lt→ltb, le→leb, eqb→eq, eqb-refl}
+use lib.IntN.{ℤ, pos, negsuc}
 
 infixr 6 _and_ _or_
 abbrev pub _and_ : Bool → Bool → Bool
@@ -75,3 +76,24 @@ or-right false b t = t
 pub or-split : {C : Type 0} (a b : Bool) → T (a or b) → (T a → C) → (T b → C) → C
 or-split true b t f g = f tt
 or-split false b t f g = g t
+
+-- ---- of whole numbers
+
+abbrev pub eqZ : ℤ → ℤ → Bool
+eqZ (pos m) (pos n) = eqb m n
+eqZ (pos m) (negsuc n) = false
+eqZ (negsuc m) (pos n) = false
+eqZ (negsuc m) (negsuc n) = eqb m n
+
+pub eqZ-of : (a b : ℤ) → T (eqZ a b) → a ≡ b
+eqZ-of (pos m) (pos n) t = ap pos (eqb→eq m n t)
+eqZ-of (pos m) (negsuc n) t = absurd t
+eqZ-of (negsuc m) (pos n) t = absurd t
+eqZ-of (negsuc m) (negsuc n) t = ap negsuc (eqb→eq m n t)
+
+pub eqZ-self : (a : ℤ) → T (eqZ a a)
+eqZ-self (pos m) = eqb-refl m
+eqZ-self (negsuc m) = eqb-refl m
+
+pub eqZ-true : {a b : ℤ} → a ≡ b → T (eqZ a b)
+eqZ-true {a} {b} e = subst (λ t. T (eqZ a t)) e (eqZ-self a)

@@ -1,0 +1,9 @@
+pub mod Limits
+pub mod Planes
+pub mod Solids
+pub mod Cells
+pub mod Section
+pub mod Normal
+pub mod Text
+pub mod Judging
+pub mod Answers
