@@ -1,0 +1,4 @@
+-- Normal forms.
+pub mod Normal
+pub mod Build
+pub mod OnPlane

@@ -1,0 +1,4 @@
+pub mod Planes
+pub mod Cells
+pub mod Forms
+pub mod Text
