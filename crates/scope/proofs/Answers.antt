@@ -1,14 +1,13 @@
 -- Answers: the orders of refusal that a call's own definition decides.
-use mathlib.Core.Bool.{Bool, true, false}
 use mathlib.Core.List.{List, [], _∷_, _++_}
 use Prim.Native.Nat.{ℕ, zero, suc}
 use lib.Dec.{T, eqb}
-use lib.ListN.{length, replicate}
-use lib.IntN.{ℤ, pos}
+use lib.ListN.{replicate}
+use lib.IntN.{pos}
 use Rattle.whole.specs.Tests.{_and_}
 use Rattle.whole.specs.Gcd.{euclid, gcd}
 use Rattle.scope.specs.Planes.{Plane, Point, at, in-range, lead, common, fault, half-fault, coincident, before, point-in-range}
-use Rattle.scope.specs.Solids.{Mark, IN, OUT, Tree, leaf, node, rows, insert, ascending, Reply, marked, ON, reply}
+use Rattle.scope.specs.Solids.{IN, OUT, Tree, leaf, node, rows, insert, ascending, Reply, marked, ON, reply}
 use Rattle.scope.specs.Cells.{box}
 use Rattle.scope.specs.Section.{clip, clips, section}
 use Rattle.scope.specs.Text.{hex, hexes, line, high, low, high-word, low-word, unsigned, bytes, written, solid-frames, text}

@@ -1,5 +1,4 @@
 -- Sections: the starts, a vertex touched (+0+), an edge in the clipping plane (00+), cuts, coincident and parallel planes, a tie of the largest coefficient.
-use mathlib.Core.Bool.{Bool}
 use mathlib.Core.List.{List, [], _∷_}
 use lib.Dec.{T}
 use lib.IntN.{pos}

@@ -1,5 +1,5 @@
 -- Texts: document 01's example, read and written again, and refusals with number and line.
-use mathlib.Core.Bool.{Bool, true, false}
+use mathlib.Core.Bool.{Bool, false}
 use mathlib.Core.List.{List, [], _∷_}
 use Prim.Native.Nat.{ℕ}
 use Prim.Native.String.{String}
@@ -11,7 +11,7 @@ use Rattle.scope.specs.Planes.{in-range, lead, common, fault, before, eq
 use Rattle.scope.specs.Solids.{IN, OUT, Tree, leaf, node, rows, code, post, insert, ascending, place, tables-of}
 use Rattle.scope.specs.Text.{digit, hex, pairs, hexes, lines, content, line, word, high, low, long, high-word, low-word, signed, unsigned, operation, plane-of, frame, frames, bytes, written, refusal-line, solid-frames, text, text-of}
 use Rattle.scope.specs.Judging.{take-child, add-row, build, uses, all-used, root-ok, tree-of, judge-head, step, read-solid, Verdict, accepted, refusal, judge, plane-table, node-table, judge-lent, MergeInput, order, order-refused, known, opening, judge-merge}
-use Rattle.scope.proofs.Kit.{pl, m, every, same-numbers, chars-from, chars}
+use Rattle.scope.proofs.Kit.{pl, every, same-numbers, chars-from, chars}
 
 -- ---- read, and written again
 

@@ -15,7 +15,7 @@ use Rattle.scope.specs.Cells.{Operation, Merged, box}
 use Rattle.scope.specs.Section.{section}
 use Rattle.scope.specs.Normal.{NormalForm}
 use Rattle.scope.specs.Text.{text, refusal-line, operation-code}
-use Rattle.scope.specs.Judging.{tree-of, Rooms, Verdict, accepted, refusal, judge-lent, MergeInput, order, order-refused, known, judge-merge}
+use Rattle.scope.specs.Judging.{tree-of, Rooms, Verdict, accepted, refusal, judge-lent, order, order-refused, known, judge-merge}
 
 pub data Answer (A : Type 0) : Type 0 where
   given : A → Answer A

@@ -1,5 +1,5 @@
 -- Document 01, "Section of a region by a plane". The empty list of bounds is Nothing (S.12).
-use mathlib.Core.Bool.{Bool, true, false, cond}
+use mathlib.Core.Bool.{cond}
 use mathlib.Core.List.{List, [], _∷_, _++_}
 use lib.Dec.{leb}
 use lib.IntN.{ℤ, pos, negsuc, natAbs}

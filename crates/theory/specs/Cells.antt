@@ -1,4 +1,5 @@
--- Cells.
+-- Cells, walks and merges: points are moved (Move, Clear), a plane and a cell (Sides), the walk of a tree in a cell (Walk), paths of kept half-spaces (Path), the side of a missed plane (Classify),
+-- uniform cells (Uniform). The theorems stand on the page Theorems.
 pub mod Reached
 pub mod Move
 pub mod Box

@@ -1,4 +1,4 @@
--- Planes: lawful ones, their order, ascending lists.
+-- Planes: what the theory asks of them (General), their order (Order) and ascending lists (Lists), coincidence (Minors), lawful planes (Lawful, Apart).
 pub mod General
 pub mod Order
 pub mod Lists

@@ -2,7 +2,7 @@
 --     solve (nums 2) (λ a b. a ⊕ b ≐ b ⊕ a) tt : (a b : ℤ) → a +ℤ b ≡ b +ℤ a
 -- An equation of vectors is `_≐₃_`.
 use mathlib.Core.Path.{_≡_}
-use mathlib.Core.Bool.{Bool, true, false, _&&_}
+use mathlib.Core.Bool.{Bool, _&&_}
 use lib.Dec.{T}
 use mathlib.Core.List.{List, [], _∷_}
 use Prim.Native.Nat.{ℕ, zero, suc, _+_}

@@ -1,22 +1,18 @@
 -- Points of a list of half-spaces, and of the box.
 --     cons, head, tail     a half-space more or less
 --     box-means, means-box the box's list says what document 01 says: w at least 1, and -30000 w < x, y, z < 30000 w
---     test                 a given point is tried by computation
 --     origin, box-origin   a point of the box
 use mathlib.Core.Path.{_≡_, refl}
-use mathlib.Core.Bool.{Bool, true, _&&_}
 use mathlib.Core.List.{List, [], _∷_}
 use native.Mathlib.Omega.{arith}
-use lib.Dec.{T}
-use lib.Signed.{ltZ}
 use lib.IntN.{pos, negℤ, _*ℤ_}
-use Rattle.whole.specs.Tests.{and-split}
 use Rattle.whole.specs.Expr.{Expr, #, _⊕_, _⊗_, neg}
 use Rattle.whole.specs.Vec.{V4, dot4ᴱ}
 use Rattle.whole.specs.Solve.{solve, _≐_, vec4s}
 use Rattle.whole.specs.Lin.{lin, _⊢_, _≺_}
 use Rattle.whole.specs.Order.{_⋖_}
 use Rattle.whole.specs.Members.{_∈_, here, there}
+use Rattle.scope.proofs.Points.{test, tested}
 use Rattle.scope.specs.Limits.{reach}
 use Rattle.scope.specs.Planes.{Plane, Point, at}
 use Rattle.scope.specs.Cells.{Inside, box}
@@ -76,16 +72,6 @@ means-box X i =
     cons (lin (vec4s 1) (λ X. (neg (# reach) ⊗ X .w ≺ X .z) ∷ [] ⊢ # 0 ≺ sideᴱ (# 0) (# 0) (# 1) (# reach) X) (omega arith) X (i .z-low)) (
     cons (lin (vec4s 1) (λ X. (X .z ≺ # reach ⊗ X .w) ∷ [] ⊢ # 0 ≺ sideᴱ (# 0) (# 0) (neg (# 1)) (# reach) X) (omega arith) X (i .z-high)) anywhere))))))
 
--- a given point is tried by computation
-unfoldable pub tested : List Plane → Point → Bool
-tested [] X = true
-tested (h ∷ c) X = ltZ (pos 0) (at h X) && tested c X
-
-pub test : (c : List Plane) (X : Point) → T (tested c X) → Inside c X
-unfolding tested
-test [] X t = anywhere
-test (h ∷ c) X t = let u = and-split (ltZ (pos 0) (at h X)) (tested c X) t in cons (record { lt = u .0 }) (test c X (u .1))
-
 pub origin : Point
 origin = record { x = pos 0; y = pos 0; z = pos 0; w = pos 1 }
 
@@ -93,7 +79,7 @@ pub box-origin : Inside box origin
 unfolding at box origin tested
 box-origin = test box origin tt
 
--- there a plane is its d: the lies of a plane that misses the box
+-- there a plane is its d: the side of a plane that misses the box
 pub at-origin : (p : Plane) → at p origin ≡ p .w
 unfolding at origin
 at-origin = solve (vec4s 1) (λ p. dot4ᴱ p (record { x = # 0; y = # 0; z = # 0; w = # 1 }) ≐ p .w) tt

@@ -1,4 +1,4 @@
--- The lies of a missed plane, from the stack of kept half-spaces with the witness of each cut: d at the bottom, the lies taken if the plane is the last one's, else the plane's sign at the last witness.
+-- The side of a missed plane, from the stack of kept half-spaces with the witness of each cut: d at the bottom, the side taken if the plane is the last one's, else the plane's sign at the last witness.
 use mathlib.Core.Path.{_≡_, sym, subst, _∙_}
 use mathlib.Core.Bool.{Bool, true, false}
 use mathlib.Core.List.{List, _∷_}
@@ -6,10 +6,11 @@ use mathlib.Core.Logic.{_≢_}
 use lib.IntN.{ℤ, pos}
 use Rattle.whole.specs.Order.{_⋖_, Lies, below, on, above, lies}
 use Rattle.whole.specs.Sign.{Sign, minus, plus, sgn, sgn-above, sgn-below}
+use Rattle.scope.proofs.Points.{same-back, same-front}
 use Rattle.scope.specs.Planes.{Plane, Point, at, flip, Lawful}
 use Rattle.scope.specs.Cells.{Inside, box, Cuts, AllFront, AllBack}
 use Rattle.theory.specs.Cells.Box.{origin, box-origin, at-origin}
-use Rattle.theory.specs.Cells.Sides.{half, missed-side, one-side-front, one-side-back, same-front, same-back}
+use Rattle.theory.specs.Cells.Sides.{half, missed-side, one-side-front, one-side-back}
 use Rattle.theory.specs.Planes.Order.{same?}
 use Rattle.theory.specs.Planes.Apart.{independent}
 

@@ -1,4 +1,4 @@
--- Points moved off planes, also on a plane off all the others, and a step off a plane to either lies.
+-- Points moved off planes, also on a plane off all the others, and a step off a plane to either side.
 use mathlib.Core.Path.{_≡_, refl, sym, ap, subst, _∙_}
 use mathlib.Core.Bool.{Bool, true, false}
 use mathlib.Core.List.{List, [], _∷_, _++_}
@@ -11,6 +11,7 @@ use Rattle.whole.specs.Solve.{solve, _≐_, vec4s}
 use Rattle.whole.specs.Order.{_⋖_, Lies, below, on, above, lies, pos-neg, pos-not-zero, neg-not-zero}
 use Rattle.whole.specs.Tests.{is-true, is-false}
 use Rattle.whole.specs.Members.{_∈_, here, there, in-left, in-right}
+use Rattle.scope.proofs.Points.{front-false, front-true}
 use Rattle.scope.specs.Planes.{Plane, Point, at, flip, equal}
 use Rattle.scope.specs.Cells.{Inside, Off}
 use Rattle.scope.specs.Solids.{front}
@@ -18,7 +19,6 @@ use Rattle.scope.specs.Normal.{taking}
 use Rattle.theory.specs.Cells.Move.{Keeps, Moved, move, at-flip, at-comm}
 use Rattle.theory.specs.Cells.Sides.{slide}
 use Rattle.theory.specs.Planes.General.{Independent, Nonzero}
-use Rattle.theory.specs.Cells.Walk.{front-true, front-false}
 use Rattle.theory.specs.Planes.Order.{same?, equal-of, equal-self}
 
 -- ---- kept sides

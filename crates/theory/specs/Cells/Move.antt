@@ -42,9 +42,6 @@ at-back p X = at-comm p (flip X) ∙ at-flip X p ∙ ap negℤ (at-comm X p)
 pub flip-front : (p : Plane) (X : Point) → at p X ⋖ pos 0 → pos 0 ⋖ at (flip p) X
 flip-front p X h = rw (at-flip p X) (neg-pos h)
 
-pub flip-back : (p : Plane) (X : Point) → pos 0 ⋖ at (flip p) X → at p X ⋖ pos 0
-flip-back p X h = lin (nums 1) (λ a. (# 0 ≺ neg a) ∷ [] ⊢ a ≺ # 0) (omega arith) (at p X) (rw (at-flip p X) at h)
-
 -- ---- the move
 
 module _ (K s x : ℤ) (h : pos 1 +ℤ s *ℤ s ⩽ K) where
@@ -59,12 +56,12 @@ module _ (K s x : ℤ) (h : pos 1 +ℤ s *ℤ s ⩽ K) where
   stays-neg k = lin (nums 3) (λ K s x. (# 1 ⊕ s ⊗ s ≦ K) ∷ (# 0 ≦ K ⊗ (neg x ⊖ # 1)) ∷ (# 0 ≦ (# 2 ⊗ s ⊖ # 1) ⊗ (# 2 ⊗ s ⊖ # 1)) ∷ [] ⊢ K ⊗ x ⊕ # 1 ⊗ s ≺ # 0) (omega arith) K s x h
       (mul-nonneg K-nonneg (lin (nums 1) (λ x. (x ≺ # 0) ∷ [] ⊢ # 0 ≦ neg x ⊖ # 1) (omega arith) x k)) (sq-nonneg (pos 2 *ℤ s -ℤ pos 1))
 
--- Y is strictly on X's lies, where X is not on g
+-- Y is strictly on X's side, where X is not on g
 pub record Keeps (g : Plane) (X Y : Point) : Type 0 where
   pub pos′ : pos 0 ⋖ at g X → pos 0 ⋖ at g Y
   pub neg′ : at g X ⋖ pos 0 → at g Y ⋖ pos 0
 
--- as far along t as keeps every lies of G; on a plane through X the lies is t's
+-- as far along t as keeps every side of G; on a plane through X the side is t's
 pub record Moved (G : List Plane) (X t : Point) : Type 0 where
   pub to : Point
   pub keeps : (g : Plane) → g ∈ G → Keeps g X to
@@ -97,7 +94,7 @@ move G X t = record {
 
 -- ---- a point between
 
--- the point where the way from X to Y meets p; what has both strictly on one lies has it there too
+-- the point where the way from X to Y meets p; what has both strictly on one side has it there too
 pub record Between (p : Plane) (X Y : Point) : Type 0 where
   pub point : Point
   pub on-p : at p point ≡ pos 0

@@ -1,7 +1,7 @@
 -- A plane and a cell: a missed cell lies on one side, both halves of a cut cell have points, and the witness of a cut tells the side of a plane that misses the half taken.
 --     cuts-between, one-side-front, one-side-back, Decided, decide   one side
 --     half-front, half-back                                          both halves
---     half, MissedSide, missed-side, same-front, same-back           the side of a missed plane
+--     half, MissedSide, missed-side                                  the side of a missed plane
 --     cuts-new, cuts-new-back                                        a plane that cuts is none of those above
 use mathlib.Core.Path.{_≡_, refl, ap, _∙_}
 use mathlib.Core.Bool.{Bool, true, false}
@@ -14,11 +14,12 @@ use Rattle.whole.specs.Solve.{solve, _≐_, nums}
 use Rattle.whole.specs.Lin.{lin, _⊢_, _≺_}
 use Rattle.whole.specs.Order.{_⋖_, Lies, below, on, above, lies, pos-neg, pos-not-zero, neg-not-zero}
 use Rattle.whole.specs.Members.{_∈_, here, there}
+use Rattle.scope.proofs.Points.{flip-back}
 use Rattle.scope.specs.Planes.{Plane, Point, at, flip}
 use Rattle.scope.specs.Cells.{Inside, Cuts, AllFront, AllBack}
 use Rattle.theory.specs.Planes.General.{Independent}
-use Rattle.theory.specs.Cells.Move.{comb, at-comb, at-flip, at-comm, at-back, flip-front, flip-back, Keeps, move, between}
-use Rattle.theory.specs.Cells.Box.{cons, head}
+use Rattle.theory.specs.Cells.Move.{comb, at-comb, at-flip, at-comm, at-back, flip-front, Keeps, move, between}
+use Rattle.theory.specs.Cells.Box.{cons}
 
 -- ---- one side
 
@@ -68,7 +69,7 @@ half-back {p} {c} n k =
     let y = move c (k .point) (flip p) in
     (y .to, cons (flip-front p (y .to) (rw (y .goes p (k .on), at-comm p (flip p), at-flip p p) (pos-neg n))) (record { each = λ q m. y .keeps q m .pos′ (k .inside .each q m) }))
 
--- ---- the lies of a missed plane, by the witness of the last cut
+-- ---- the side of a missed plane, by the witness of the last cut
 
 pub slide : (p q : Plane) → Independent p q → (t : Point) × (at p t ≡ pos 0) × (pos 0 ⋖ at q t)
 slide p q h = (
@@ -114,19 +115,12 @@ pub record MissedSide (h : Plane) (c : List Plane) (X : Point) : Type 0 where
   pub front : pos 0 ⋖ at h X → AllFront h c
   pub back : at h X ⋖ pos 0 → AllBack h c
 
--- X is the witness of g's cut of c; h misses the half of c that was taken: the sign of h at X is the lies
+-- X is the witness of g's cut of c; h misses the half of c that was taken: the sign of h at X is the side
 pub missed-side : (s : Bool) (g : Plane) {h : Plane} {c : List Plane} {X : Point} → Inside c X → at g X ≡ pos 0 → Independent h g → ¬ Cuts h (half s g ∷ c) → MissedSide h (half s g ∷ c) X
 missed-side s g {h} {c} {X} i z k n =
     let z′ = half-on s g X z in
     let k′ = half-independent s h g k in
     record { off = witness-off i z′ k′ n; front = witness-front i z′ k′ n; back = witness-back i z′ k′ n }
-
--- h the plane of the last kept half-space
-pub same-front : (p : Plane) (c : List Plane) → AllFront p (p ∷ c)
-same-front p c X i = head i
-
-pub same-back : (p : Plane) (c : List Plane) → AllBack p (flip p ∷ c)
-same-back p c X i = flip-back p X (head i)
 
 -- a plane that cuts is none of those above it
 pub cuts-new : {p : Plane} {c : List Plane} → Cuts p c → p ∈ c → ⊥

@@ -5,15 +5,15 @@ use mathlib.Core.Logic.{_≢_, _⊎_, inl, inr}
 use Prim.Native.Nat.{ℕ}
 use native.Mathlib.Omega.{arith}
 use Rattle.whole.specs.Members.{_∈_, in-left, in-right, in-either}
+use Rattle.scope.proofs.Points.{flip-back, front-false, front-true}
 use Rattle.scope.specs.Planes.{Plane, Point, flip}
 use Rattle.scope.specs.Cells.{Inside, Off, Walked, end, cut, fore, aft, join, Second, MergedIn}
 use Rattle.scope.specs.Solids.{Mark, IN, OUT, Tree, leaf, node, planes, walk, front, answer}
 use Rattle.scope.specs.Normal.{Space, both, Uniform}
 use Rattle.theory.specs.Cells.Reached.{Cell, Decider}
-use Rattle.theory.specs.Cells.Move.{flip-back}
 use Rattle.theory.specs.Cells.Box.{tail, head}
 use Rattle.theory.specs.Cells.Sides.{half-front, half-back}
-use Rattle.theory.specs.Cells.Walk.{EachPlane, front-true, front-false, Tight, tight-node, merged-tight, merged-answers, merged-some, merged-each, each-p, each-f, each-b}
+use Rattle.theory.specs.Cells.Walk.{EachPlane, Tight, tight-node, merged-tight, merged-answers, merged-some, merged-each, each-p, each-f, each-b}
 use Rattle.theory.specs.Planes.General.{Nonzero}
 use Rattle.theory.specs.Cells.Clear.{clear-off, keeps-inside}
 

@@ -3,16 +3,16 @@ use mathlib.Core.Path.{_≡_, refl, sym, ap₂, subst, _∙_}
 use mathlib.Core.Bool.{Bool, true, false}
 use mathlib.Core.List.{List, _∷_}
 use mathlib.Core.Logic.{inl, inr}
-use Prim.Native.Nat.{ℕ, zero, suc, _+_, _*_, _≤_}
+use Prim.Native.Nat.{ℕ, suc, _+_, _*_, _≤_}
 use native.Mathlib.Omega.{arith}
-use lib.IntN.{ℤ, pos, negsuc}
-use Rattle.whole.specs.Difference.{lt-parts}
+use lib.IntN.{pos}
 use Rattle.whole.specs.Order.{_⋖_, Lies, below, on, above, lies, lt-not-lt, pos-not-zero, neg-not-zero}
 use Rattle.whole.specs.Sign.{sgn-above, sgn-below}
 use Rattle.whole.specs.Members.{_∈_, here, there, in-left, in-right, in-either}
+use Rattle.scope.proofs.Points.{front-false, front-true}
 use Rattle.scope.specs.Planes.{Plane, Point, at, flip}
 use Rattle.scope.specs.Cells.{Inside, Cuts, AllFront, AllBack, Off, Walked, end, cut, fore, aft, Trimmed, join, Second, MergedIn}
-use Rattle.scope.specs.Solids.{Mark, IN, OUT, Tree, leaf, node, rows, planes, pick, walk, positive, front, answer, marked, reply}
+use Rattle.scope.specs.Solids.{Mark, IN, OUT, Tree, leaf, node, rows, planes, pick, walk, front, answer, marked, reply}
 use Rattle.theory.specs.Cells.Reached.{Cell, ahead, behind, Decider}
 use Rattle.theory.specs.Cells.Move.{flip-front}
 use Rattle.theory.specs.Cells.Box.{cons}
@@ -90,24 +90,6 @@ module _ (J : Plane → Tree → Tree → Tree) (L : List Plane → Mark → Tre
         go (Decided.aft h) f′ b′ = let v = b′ c X a i in (v .0, aft h (v .1))
 
 -- ---- answers
-
-pub front-true : (p : Plane) (X : Point) → pos 0 ⋖ at p X → front X p ≡ true
-unfolding front
-front-true p X h = go (at p X) h
-  where
-    go : (a : ℤ) → pos 0 ⋖ a → positive a ≡ true
-    go (pos zero) h = absurd (h .lt)
-    go (pos (suc n)) h = refl
-    go (negsuc n) h = absurd (h .lt)
-
-pub front-false : (p : Plane) (X : Point) → at p X ⋖ pos 0 → front X p ≡ false
-unfolding front
-front-false p X h = go (at p X) h
-  where
-    go : (a : ℤ) → a ⋖ pos 0 → positive a ≡ false
-    go (pos zero) h = refl
-    go (pos (suc n)) h = absurd (omega (arith, lt-parts (pos (suc n)) (pos 0) h))
-    go (negsuc n) h = refl
 
 -- off the planes the point call gives the answer
 pub reply-off : (t : Tree) (X : Point) → Off (planes t) X → reply t X ≡ marked (answer t X)

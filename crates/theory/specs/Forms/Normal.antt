@@ -8,6 +8,7 @@ use native.Mathlib.Omega.{arith}
 use lib.IntN.{pos}
 use Rattle.whole.specs.Order.{_⋖_, Lies, below, on, above, lies}
 use Rattle.whole.specs.Members.{_∈_, here, there, in-left, in-right, in-either}
+use Rattle.scope.proofs.Points.{front-false, front-true}
 use Rattle.scope.specs.Planes.{Plane, Point, at, flip}
 use Rattle.scope.specs.Cells.{Inside, box, Cuts, Off}
 use Rattle.scope.specs.Solids.{Mark, IN, OUT, Tree, leaf, node, planes, walk, front, answer}
@@ -15,7 +16,6 @@ use Rattle.scope.specs.Normal.{Space, space, taking, Boundary, Uniform, First, 
 use Rattle.theory.specs.Cells.Move.{Between, between, flip-front}
 use Rattle.theory.specs.Cells.Box.{box-origin, cons, tail}
 use Rattle.theory.specs.Cells.Sides.{half-front, half-back}
-use Rattle.theory.specs.Cells.Walk.{front-true, front-false}
 use Rattle.theory.specs.Planes.Order.{same?, ordered, first, level, last}
 use Rattle.theory.specs.Cells.Uniform.{Mixed}
 use Rattle.theory.specs.Planes.General.{General, general-sub}
@@ -34,7 +34,7 @@ mark? OUT OUT = yes refl
 abbrev pub Within : List Plane → List Plane → Type 0
 Within c d = (X : Point) → Inside c X → Inside d X
 
--- two points off r are on one lies of it, or on two
+-- two points off r are on one side of it, or on two
 data Sides (r : Plane) (Y Z : Point) : Type 0 where
   both-front : pos 0 ⋖ at r Y → pos 0 ⋖ at r Z → Sides r Y Z
   both-back : at r Y ⋖ pos 0 → at r Z ⋖ pos 0 → Sides r Y Z
@@ -97,7 +97,7 @@ module _ (S : Space) (g : General (S .list)) (c : List Plane) (w : Within c box)
         alike r n e (both-back h j) = front-false r (k .to) (k .keeps r (in-right c n) .neg′ (z .aft r h j)) ∙ sym (front-false r Y h)
         alike r n e (parted i d) = absurd (d e)
 
-  -- the step off q from the middle, to the lies s
+  -- the step off q from the middle, to the side s
   off-q : {q : Plane} {Y Z : Point} (s : Bool) → q ∈ S .list → (k : Middle q Y Z) → Stepped q s c (S .list) (k .point)
   off-q {q} s m k = step q s c (S .list) (k .point) (g .nonzero q m) (k .on-q) (k .others)
 
@@ -257,7 +257,7 @@ module _ (S S′ : Space) (g : General (S .list ++ S′ .list)) (a : Alike S S�
         go (yes e) = taking-same p s (k .to) q e ∙ sym (taking-same p s (b .point) q e)
         go (no d) = taking-other p s (k .to) q d ∙ keeps-front (k .keeps q (in-right box m)) (b .others q m d) ∙ sym (taking-other p s (b .point) q d)
 
-    -- a step off to the lies s: the second space has there the first one's mark
+    -- a step off to the side s: the second space has there the first one's mark
     carried : (s : Bool) → S′ .mark (taking p s (k .to)) ≡ S .mark (taking p s (b .point))
     carried s =
         let y = step p s box (S .list ++ S′ .list) (k .to) (g .nonzero p (in-left (S′ .list) (b .member))) (k .on-p) (k .off) in

@@ -1,4 +1,4 @@
--- The walk on a plane p, by which a boundary plane is told: at a node of p it takes the lies s; at another plane it goes where p has points, and keeps the half-space only if p has points on both sides.
+-- The walk on a plane p, by which a boundary plane is told: at a node of p it takes the side s; at another plane it goes where p has points, and keeps the half-space only if p has points on both sides.
 use mathlib.Core.Path.{_≡_, refl, sym, ap, ap₂, _∙_}
 use mathlib.Core.Bool.{Bool, true, false}
 use mathlib.Core.List.{List, _∷_, _++_}
@@ -8,16 +8,17 @@ use native.Mathlib.Omega.{arith}
 use lib.IntN.{pos, negℤ}
 use Rattle.whole.specs.Order.{_⋖_, Lies, below, on, above, lies, pos-neg, lt-not-lt}
 use Rattle.whole.specs.Members.{_∈_, here, there, in-left, in-right, in-either}
+use Rattle.scope.proofs.Points.{flip-back, front-false, front-true}
 use Rattle.scope.specs.Planes.{Plane, Point, at, flip}
 use Rattle.scope.specs.Cells.{Inside, box, Cuts}
 use Rattle.scope.specs.Solids.{Mark, Tree, leaf, node, planes, walk}
 use Rattle.scope.specs.Normal.{both, taking, Boundary}
 use Rattle.theory.specs.Cells.Reached.{Cell, whole, ahead, behind, Decider}
-use Rattle.theory.specs.Cells.Move.{at-back, flip-front, flip-back, move}
+use Rattle.theory.specs.Cells.Move.{at-back, flip-front, move}
 use Rattle.theory.specs.Cells.Box.{cons, tail, head}
 use Rattle.theory.specs.Cells.Sides.{slide}
 use Rattle.theory.specs.Planes.General.{Independent, General}
-use Rattle.theory.specs.Cells.Walk.{EachPlane, each-p, each-f, each-b, front-true, front-false}
+use Rattle.theory.specs.Cells.Walk.{EachPlane, each-p, each-f, each-b}
 use Rattle.theory.specs.Planes.Order.{same?}
 use Rattle.theory.specs.Cells.Clear.{Cleared, clear-on, keeps-inside, taking-same, taking-other}
 use Rattle.theory.specs.Forms.Normal.{Within, mark?}

@@ -18,7 +18,7 @@ use Rattle.whole.specs.Order.{_⩽_, _⋖_, signs, Lies, below, on, above, lies
 use Rattle.whole.specs.Members.{_∈_}
 use Rattle.scope.specs.Planes.{Plane, at, minor, coincident, Lawful}
 use Rattle.theory.specs.Planes.General.{Independent, General}
-use Rattle.theory.specs.Planes.Minors.{Minors, minors}
+use Rattle.theory.specs.Planes.Minors.{minorᴱ, Minors, minors}
 use Rattle.theory.specs.Planes.Lawful.{Divides, Primitive, primitive, Leading, lead-a, lead-b, lead-c, leading, lawful-nonzero}
 
 abbrev sq : ℤ → ℤ
@@ -29,9 +29,6 @@ sqᴱ m = m ⊗ m
 
 abbrev sumᴱ : Expr → Expr → Expr → Expr → Expr → Expr → Expr
 sumᴱ a b c d e f = sqᴱ a ⊕ sqᴱ b ⊕ sqᴱ c ⊕ sqᴱ d ⊕ sqᴱ e ⊕ sqᴱ f
-
-abbrev minorᴱ : Expr → Expr → Expr → Expr → Expr
-minorᴱ a b c d = a ⊗ d ⊖ b ⊗ c
 
 -- ---- proportional planes have a common part: Euclid, on planes
 

@@ -1,10 +1,16 @@
 -- Coincident planes: all six 2×2 minors are zero.
+--     Minors, minors   what the test says
+--     minorᴱ           a minor as an expression, for identities
 use mathlib.Core.Path.{_≡_, refl}
 use Prim.Native.Nat.{zero, suc}
 use lib.Dec.{T}
 use lib.IntN.{ℤ, pos, negsuc}
 use Rattle.whole.specs.Tests.{_and_, and-split}
+use Rattle.whole.specs.Expr.{Expr, _⊖_, _⊗_}
 use Rattle.scope.specs.Planes.{Plane, minor, is-zero, coincident}
+
+abbrev pub minorᴱ : Expr → Expr → Expr → Expr → Expr
+minorᴱ a b c d = a ⊗ d ⊖ b ⊗ c
 
 pub record Minors (p q : Plane) : Type 0 where
   pub xy : minor (p .x) (p .y) (q .x) (q .y) ≡ pos 0
@@ -14,7 +20,7 @@ pub record Minors (p q : Plane) : Type 0 where
   pub yw : minor (p .y) (p .w) (q .y) (q .w) ≡ pos 0
   pub zw : minor (p .z) (p .w) (q .z) (q .w) ≡ pos 0
 
-pub zero-of : (a : ℤ) → T (is-zero a) → a ≡ pos 0
+zero-of : (a : ℤ) → T (is-zero a) → a ≡ pos 0
 zero-of (pos zero) t = refl
 zero-of (pos (suc n)) t = absurd t
 zero-of (negsuc n) t = absurd t

@@ -1,0 +1,158 @@
+-- The headline theorems, on one page. Planes are lawful, points are whole quadruples of any size with w at least 1 (the first half-space of `box`), and no hypothesis is left open:
+-- whether a plane cuts a cell is decided by the section.
+--     planes        lawful-coincident
+--     sections      section-nothing, section-witness, section-same, section-enough, section-134, section-up   (page Section)
+--     cells         missed-one-side, halves, told, path-128
+--     merges        merge, merge-unique, merge-points, merge-tight, merge-rows, merge-lawful, merge-planes
+--     normal forms  form, form-unique, form-points, form-planes, form-again, form-merged, same-form-same-space
+-- Endings: -unique, no second one; -points, the answers of points off the planes; -tight, no plane is kept that misses its cell.
+use mathlib.Core.Path.{_≡_, refl, sym}
+use mathlib.Core.List.{List, [], _∷_, _++_}
+use mathlib.Core.Logic.{_⊎_, inl, inr, _↔_}
+use Prim.Native.Nat.{ℕ, _+_, _*_, _≤_}
+use native.Mathlib.Omega.{arith}
+use lib.ListN.{length-append}
+use Rattle.whole.specs.Members.{_∈_, in-left, in-right, in-either}
+use Rattle.scope.specs.Planes.{Plane, Point, flip, Lawful}
+use Rattle.scope.specs.Solids.{Mark, OUT, Tree, leaf, rows, planes, ascending, LawfulTree, answer}
+use Rattle.scope.specs.Cells.{Inside, box, Cuts, AllFront, AllBack, Off, Operation, operate, Merged}
+use Rattle.scope.specs.Normal.{space, both, Boundary, Normal, NormalForm}
+use Rattle.theory.specs.Planes.General.{Nonzero, General, general-sub}
+use Rattle.theory.specs.Planes.Lists.{ascending-law, ascending-same}
+use Rattle.theory.specs.Planes.Lawful.{lawful-nonzero}
+use Rattle.theory.specs.Planes.Apart.{lawful-general}
+use Rattle.theory.specs.Cells.Reached.{Cell, whole, decided}
+use Rattle.theory.specs.Cells.Box.{origin, box-origin}
+use Rattle.theory.specs.Cells.Sides.{Decided, cut, fore, aft, decide, half-front, half-back}
+use Rattle.theory.specs.Cells.Walk.{EachPlane, Tight, merged-one, merged-some, merged-answers, merged-tight, merged-rows, merged-each}
+use Rattle.theory.specs.Cells.Path.{Kept, kept-few}
+use Rattle.theory.specs.Cells.Uniform.{uniform?}
+use Rattle.theory.specs.Forms.Normal.{normal-one, normal-answers, normal-planes, normal-same, normal-uses, same-form}
+use Rattle.theory.specs.Forms.Build.{form-some, listed}
+use Rattle.theory.specs.Forms.OnPlane.{boundary?}
+-- coincident lawful planes are equal; the section; the side of a missed plane by the witness of the last cut (`tell-right`)
+pub use Rattle.theory.specs.Planes.Apart.{lawful-coincident}
+pub use Rattle.theory.specs.Section.{section-nothing, section-witness, section-same, section-enough, section-134, section-up, cuts?}
+pub use Rattle.theory.specs.Cells.Classify.{Stack, tell, Says, tell-right}
+
+lawful : {t : Tree} → LawfulTree t → EachPlane Lawful t
+lawful l = record { each = l .each }
+
+thick : {t : Tree} → LawfulTree t → EachPlane Nonzero t
+thick l = record { each = λ p m. lawful-nonzero (l .each p m) }
+
+either : (ps qs : List Plane) {Q : Plane → Type 0} → ((p : Plane) → p ∈ ps → Q p) → ((p : Plane) → p ∈ qs → Q p) → (p : Plane) → p ∈ (ps ++ qs) → Q p
+either ps qs f g p m = elim (in-either ps qs m) [ inl i ↦ f p i | inr i ↦ g p i ]
+
+general : {A B : Tree} → LawfulTree A → LawfulTree B → General (planes A ++ planes B)
+general {A} {B} l k = lawful-general (either (planes A) (planes B) (l .each) (k .each))
+
+-- ---- cells
+
+-- a cell that a lawful plane does not cut lies in front of it or behind it
+pub missed-one-side : {p : Plane} {c : List Plane} {X : Point} → Lawful p → Cell Lawful c → Inside c X → ¬ Cuts p c → AllFront p c ⊎ AllBack p c
+missed-one-side {p} {c} {X} l a i n = go (decide p c X i (no n))
+  where
+    go : Decided p c → AllFront p c ⊎ AllBack p c
+    go (cut k) = absurd (n k)
+    go (fore h) = inl h
+    go (aft h) = inr h
+
+-- both halves of a cell that it cuts have points
+pub halves : {p : Plane} {c : List Plane} → Lawful p → Cuts p c → ((X : Point) × Inside (p ∷ c) X) × ((X : Point) × Inside (flip p ∷ c) X)
+halves l k = (half-front (lawful-nonzero l) k, half-back (lawful-nonzero l) k)
+
+-- the half-spaces of the nodes kept on the way down two solids: at most 128
+pub path-128 : {A B : Tree} {c : List Plane} {n : ℕ} → LawfulTree A → LawfulTree B → Kept (ascending (planes A) ++ ascending (planes B)) c n → n ≤ 128
+path-128 {A} {B} l k w = omega (arith, kept-few w, length-append (ascending (planes A)) (ascending (planes B)), l .few-planes, k .few-planes)
+
+-- ---- the merge: demand 2
+
+module _ (o : Operation) {A B : Tree} (l : LawfulTree A) (k : LawfulTree B) where
+  -- there is a merged tree,
+  pub merge : (r : Tree) × Merged o A B r
+  merge = merged-some (operate o) B Lawful (λ p h. lawful-nonzero h) decided (lawful k) A box origin (lawful l) whole box-origin
+
+  module _ {r : Tree} (w : Merged o A B r) where
+    -- and no second one;
+    pub merge-unique : {s : Tree} → Merged o A B s → r ≡ s
+    merge-unique = merged-one (operate o) B box-origin (thick l) (thick k) w
+
+    -- a point strictly in the box and off the operands' planes is in it exactly if the operation holds of its two answers;
+    pub merge-points : (X : Point) → Inside box X → Off (planes A) X → Off (planes B) X → answer r X ≡ operate o (answer A X) (answer B X)
+    merge-points X i y z = merged-answers (operate o) B i y z w
+
+    -- no node is kept whose plane misses its cell;
+    pub merge-tight : Tight box r
+    merge-tight = merged-tight (operate o) B w
+
+    -- at most n + m + n·m rows;
+    pub merge-rows : rows r ≤ rows A + rows B + rows A * rows B
+    merge-rows = merged-rows (operate o) B w
+
+    -- and no plane that the operands do not have
+    pub merge-planes : (p : Plane) → p ∈ planes r → p ∈ (planes A ++ planes B)
+    merge-planes = merged-each (operate o) B {Q = λ p. p ∈ (planes A ++ planes B)} (record { each = λ p. in-left (planes B) }) (record { each = λ p. in-right (planes A) }) w .each
+
+    pub merge-lawful : (p : Plane) → p ∈ planes r → Lawful p
+    merge-lawful = merged-each (operate o) B (lawful l) (lawful k) w .each
+
+-- ---- normal forms: of any operation on the marks of two solids there is one,
+
+module _ (o : Mark → Mark → Mark) {A B : Tree} (l : LawfulTree A) (k : LawfulTree B) where
+  pub form-both : (r : Tree) × Normal (both o A B) box r
+  form-both =
+      let g = general l k in
+      let s = ascending-same (planes A ++ planes B) in
+      let b = listed (both o A B) (boundary? Lawful decided o (lawful l) (lawful k) g) (ascending (planes A ++ planes B)) (ascending-law (planes A ++ planes B)) (s .from) in
+      form-some (both o A B) g Lawful (either (planes A) (planes B) (l .each) (k .each)) decided (uniform? o (thick l) (thick k) Lawful (λ p h. lawful-nonzero h) decided (lawful l) (lawful k))
+      (b .0) (b .1 .order) (λ q m. b .1 .from q m .1) (λ q f. b .1 .all q (s .to q (f .member)) f)
+
+  -- and no second one
+  pub form-both-unique : {r s : Tree} → Normal (both o A B) box r → Normal (both o A B) box s → r ≡ s
+  form-both-unique = normal-one (both o A B) (general l k) box-origin
+
+no-planes : LawfulTree (leaf OUT)
+unfolding ascending rows
+no-planes = record { each = λ p m. elim m [ ]; few-planes = omega arith; few-rows = omega arith }
+
+module _ {A : Tree} (l : LawfulTree A) where
+  alone : (p : Plane) → p ∈ ((planes A ++ []) ++ planes A) → p ∈ planes A
+  alone = either (planes A ++ []) (planes A) {Q = λ p. p ∈ planes A} (either (planes A) [] {Q = λ p. p ∈ planes A} (λ p m. m) (λ p m. elim m [ ])) (λ p m. m)
+
+  -- every solid has a normal form
+  pub form : (r : Tree) × NormalForm A r
+  form =
+      let f = form-both (λ a b. a) {B = leaf OUT} l no-planes in (
+        f .0,
+        normal-same (both (λ a b. a) A (leaf OUT)) (space A) (general-sub (planes A) ((planes A ++ []) ++ planes A) (lawful-general (l .each)) alone)
+            (record { alike = λ X i y z. refl }) (λ X i. i) (f .1),
+      )
+
+  module _ {r : Tree} (n : NormalForm A r) where
+    pub form-unique : {s : Tree} → NormalForm A s → r ≡ s
+    form-unique = normal-one (space A) (lawful-general (l .each)) box-origin n
+
+    -- it answers points as its solid does, off the solid's planes
+    pub form-points : (X : Point) → Inside box X → Off (planes A) X → answer r X ≡ answer A X
+    form-points X i z = normal-answers (space A) i z n
+
+    -- its planes are the boundary planes
+    pub form-planes : (p : Plane) → (p ∈ planes r) ↔ Boundary (space A) p
+    form-planes p = (normal-planes (space A) n p, normal-uses (space A) (lawful-general (l .each)) n p)
+
+    -- and the normal form of it is itself
+    pub form-again : NormalForm r r
+    form-again = normal-same (space A) (space r) (lawful-general (either (planes A) (planes r) (l .each) (λ p m. l .each p (normal-planes (space A) n p m .member))))
+        (record { alike = λ X i y z. sym (form-points X i y) }) (λ X i. i) n
+
+-- the normal form of a merged tree is that of the operation on its operands
+pub form-merged : (o : Operation) {A B r s : Tree} → LawfulTree A → LawfulTree B → Merged o A B r → Normal (both (operate o) A B) box s → NormalForm r s
+form-merged o {A} {B} {r} l k w n = normal-same (both (operate o) A B) (space r)
+    (lawful-general (either (planes A ++ planes B) (planes r) (either (planes A) (planes B) (l .each) (k .each)) (merge-lawful o l k w)))
+    (record { alike = λ X i y z. sym (merge-points o l k w X i (record { none = λ q m. y .none q (in-left (planes B) m) }) (record { none = λ q m. y .none q (in-right (planes A) m) })) }) (λ X i. i) n
+
+-- demand 3, for trees: two normal forms are the same exactly when no point strictly in the box, off the planes of both, is in one solid and out of the other
+module _ {A B : Tree} (l : LawfulTree A) (k : LawfulTree B) {r s : Tree} (n : NormalForm A r) (m : NormalForm B s) where
+  pub same-form-same-space : (r ≡ s) ↔ ((X : Point) → Inside box X → Off (planes A) X → Off (planes B) X → answer A X ≡ answer B X)
+  same-form-same-space = let e = same-form (space A) (space B) (general l k) n m in (λ d. e .0 d .alike, λ f. e .1 (record { alike = f }))
