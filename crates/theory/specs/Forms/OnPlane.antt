@@ -156,6 +156,25 @@ module _ (p : Plane) (s : Bool) (P : List Plane → Mark → Type 0) where
               pick-q (yes x) = both-front d (record { point = X; on = z; inside = j }) x (u (q ∷ c) (ahead (each-p n) a) j (λ d m y y′ w e. k d m y y′ (λ Y t. tail (w Y t)) (l ∙ e)))
               pick-q (no x) = only-front d x (u c a i (λ d m y y′ w e. k d m y y′ w (l ∙ e)))
 
+  -- a walk at a node of p, and at a node of another plane
+  at-own : {R : Type 0} {c : List Plane} {q : Plane} {f b : Tree} → q ≡ p → (s ≡ true → Along p s P c f → R) → (s ≡ false → Along p s P c b → R) → Along p s P c (node q f b) → R
+  at-own e u v (same-front _ l x) = u l x
+  at-own e u v (same-back _ l x) = v l x
+  at-own e u v (both-front d _ _ x) = absurd (d e)
+  at-own e u v (both-back d _ _ x) = absurd (d e)
+  at-own e u v (only-front d _ x) = absurd (d e)
+  at-own e u v (only-back d _ x) = absurd (d e)
+
+  at-other : {R : Type 0} {c : List Plane} {q : Plane} {f b : Tree} → q ≢ p
+      → (Cuts p (q ∷ c) → Cuts p (flip q ∷ c) → Along p s P (q ∷ c) f → R) → (Cuts p (q ∷ c) → Cuts p (flip q ∷ c) → Along p s P (flip q ∷ c) b → R)
+      → (¬ Cuts p (flip q ∷ c) → Along p s P c f → R) → (¬ Cuts p (q ∷ c) → Along p s P c b → R) → Along p s P c (node q f b) → R
+  at-other d u v f b (same-front e _ w) = absurd (d e)
+  at-other d u v f b (same-back e _ w) = absurd (d e)
+  at-other d u v f b (both-front _ x y w) = u x y w
+  at-other d u v f b (both-back _ x y w) = v x y w
+  at-other d u v f b (only-front _ y w) = f y w
+  at-other d u v f b (only-back _ x w) = b x w
+
   -- the walk ends, and tells
   pub along? : (Ok : Plane → Type 0) → Ok p → Decider Ok → ((d : List Plane) (m : Mark) → Cell Ok d → Cuts p d → Dec (P d m)) → (t : Tree) → EachPlane Ok t → Across p t → (c : List Plane) → Cell Ok c → Cuts p c → Dec (Along p s P c t)
   along? Ok okay cuts? h (leaf m) n a c x k = go (h c m x k)
@@ -173,28 +192,12 @@ module _ (p : Plane) (s : Bool) (P : List Plane → Mark → Type 0) where
         where
           on-f : Dec (Along p s P c f) → Dec (Along p s P c (node q f b))
           on-f (yes x) = yes (same-front e l x)
-          on-f (no n) = no refute
-            where
-              refute : Along p s P c (node q f b) → ⊥
-              refute (same-front _ _ x) = n x
-              refute (same-back _ r x) = true-false (sym l ∙ r)
-              refute (both-front d _ _ x) = d e
-              refute (both-back d _ _ x) = d e
-              refute (only-front d _ x) = d e
-              refute (only-back d _ x) = d e
+          on-f (no n) = no (at-own e (λ r x. n x) (λ r x. true-false (sym l ∙ r)))
       at-p e false l u v = on-b (v c cell k)
         where
           on-b : Dec (Along p s P c b) → Dec (Along p s P c (node q f b))
           on-b (yes x) = yes (same-back e l x)
-          on-b (no n) = no refute
-            where
-              refute : Along p s P c (node q f b) → ⊥
-              refute (same-front _ r x) = true-false (sym r ∙ l)
-              refute (same-back _ _ x) = n x
-              refute (both-front d _ _ x) = d e
-              refute (both-back d _ _ x) = d e
-              refute (only-front d _ x) = d e
-              refute (only-back d _ x) = d e
+          on-b (no n) = no (at-own e (λ r x. true-false (sym r ∙ l)) (λ r x. n x))
 
       off-p : q ≢ p → Dec (Cuts p (q ∷ c)) → Dec (Cuts p (flip q ∷ c)) → F f → F b → Dec (Along p s P c (node q f b))
       off-p d (yes x) (yes y) u v = two (u (q ∷ c) (ahead (each-p ok) cell) x) (v (flip q ∷ c) (behind (each-p ok) cell) y)
@@ -202,41 +205,17 @@ module _ (p : Plane) (s : Bool) (P : List Plane → Mark → Type 0) where
           two : Dec (Along p s P (q ∷ c) f) → Dec (Along p s P (flip q ∷ c) b) → Dec (Along p s P c (node q f b))
           two (yes w) r = yes (both-front d x y w)
           two (no n) (yes w) = yes (both-back d x y w)
-          two (no n) (no n′) = no refute
-            where
-              refute : Along p s P c (node q f b) → ⊥
-              refute (same-front e _ w) = d e
-              refute (same-back e _ w) = d e
-              refute (both-front _ _ _ w) = n w
-              refute (both-back _ _ _ w) = n′ w
-              refute (only-front _ z w) = z y
-              refute (only-back _ z w) = z x
+          two (no n) (no n′) = no (at-other d (λ i j w. n w) (λ i j w. n′ w) (λ z w. z y) (λ z w. z x))
       off-p d (yes x) (no y) u v = on-f (u c cell k)
         where
           on-f : Dec (Along p s P c f) → Dec (Along p s P c (node q f b))
           on-f (yes w) = yes (only-front d y w)
-          on-f (no n) = no refute
-            where
-              refute : Along p s P c (node q f b) → ⊥
-              refute (same-front e _ w) = d e
-              refute (same-back e _ w) = d e
-              refute (both-front _ _ z w) = y z
-              refute (both-back _ _ z w) = y z
-              refute (only-front _ _ w) = n w
-              refute (only-back _ z w) = z x
+          on-f (no n) = no (at-other d (λ i j w. y j) (λ i j w. y j) (λ z w. n w) (λ z w. z x))
       off-p d (no x) (yes y) u v = on-b (v c cell k)
         where
           on-b : Dec (Along p s P c b) → Dec (Along p s P c (node q f b))
           on-b (yes w) = yes (only-back d x w)
-          on-b (no n) = no refute
-            where
-              refute : Along p s P c (node q f b) → ⊥
-              refute (same-front e _ w) = d e
-              refute (same-back e _ w) = d e
-              refute (both-front _ z _ w) = x z
-              refute (both-back _ z _ w) = x z
-              refute (only-front _ z w) = z y
-              refute (only-back _ _ w) = n w
+          on-b (no n) = no (at-other d (λ i j w. x i) (λ i j w. x i) (λ z w. z y) (λ z w. n w))
       off-p d (no x) (no y) u v = absurd (lt-not-lt (strict-front p q i y (k .point) (k .on) (k .inside)) (strict-back p q i x (k .point) (k .on) (k .inside)))
         where
           i : Independent p q
