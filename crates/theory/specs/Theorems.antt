@@ -4,6 +4,7 @@
 --     sections      section-nothing, section-witness, section-same, section-enough, section-134, section-up   (page Section)
 --     cells         missed-one-side, halves, told, path-128
 --     merges        merge, merge-unique, merge-points, merge-tight, merge-rows, merge-lawful, merge-planes
+--     texts         text-of-injective, judge-tree, judge-read, judge-only, judge-refused, refused-judge, refused-one   (page Text)
 --     normal forms  form, form-unique, form-points, form-planes, form-again, form-merged, same-form-same-space
 -- Endings: -unique, no second one; -points, the answers of points off the planes; -tight, no plane is kept that misses its cell.
 use mathlib.Core.Path.{_≡_, refl, sym}
@@ -34,6 +35,9 @@ use Rattle.theory.specs.Forms.OnPlane.{boundary?}
 pub use Rattle.theory.specs.Planes.Apart.{lawful-coincident}
 pub use Rattle.theory.specs.Section.{section-nothing, section-witness, section-same, section-enough, section-134, section-up, cuts?}
 pub use Rattle.theory.specs.Cells.Classify.{Stack, tell, Says, tell-right}
+-- a solid and its text determine each other, and every text is accepted or refused by exactly one number and line
+pub use Rattle.theory.specs.Text.Judge.{text-of-injective, judge-tree, judge-read, judge-only}
+pub use Rattle.theory.specs.Text.Refusals.{judge-refused, refused-judge, refused-one}
 
 lawful : {t : Tree} → LawfulTree t → EachPlane Lawful t
 lawful l = record { each = l .each }

@@ -43,6 +43,9 @@ le-true m n h = is-true (leb m n) (le→leb m n h)
 pub eq-true : (n : ℕ) → eqb n n ≡ true
 eq-true n = is-true (eqb n n) (eqb-refl n)
 
+pub eq-test : (m n : ℕ) → m ≡ n → T (eqb m n)
+eq-test m n e = subst (λ i. T (eqb m i)) e (eqb-refl m)
+
 pub eq-false : (m n : ℕ) → (m ≡ n → ⊥) → eqb m n ≡ false
 eq-false m n h = is-false (eqb m n) (λ t. h (eqb→eq m n t))
 

@@ -1,28 +1,18 @@
 -- Rows in post-order, front first, and the code of a tree whose rows begin at n. They determine the tree.
+--     code-back, code-front   the codes are those of document 01's rule
+--     post-length             a tree has as many rows as nodes
+--     post-tree               rows and code determine the tree
 use mathlib.Core.Path.{_≡_, refl, sym, ap, _∙_}
-use mathlib.Core.List.{List, [], _∷_, _++_}
+use mathlib.Core.List.{_++_}
 use Prim.Native.Nat.{ℕ, _+_, _-_}
 use native.Mathlib.Omega.{arith}
 use lib.ListN.{length, length-append}
+use Rattle.whole.specs.Members.{parts}
+use Rattle.whole.specs.Tests.{differ}
 use Rattle.scope.specs.Planes.{Plane}
-use Rattle.scope.specs.Solids.{Mark, Tree, leaf, node, rows}
+use Rattle.scope.specs.Solids.{Tree, leaf, node, rows, row, code, post}
 
-pub data Code : Type 0 where
-  mark : Mark → Code
-  row : ℕ → Code
-
-pub data Row : Type 0 where
-  a-row : Plane → Code → Code → Row
-
-unfoldable pub code : ℕ → Tree → Code
-code n (leaf m) = mark m
-code n (node p f b) = row (n + rows f + rows b)
-
-unfoldable pub post : ℕ → Tree → List Row
-post n (leaf m) = []
-post n (node p f b) = (post n f ++ post (n + rows f) b) ++ (a-row p (code n f) (code (n + rows f) b) ∷ [])
-
--- the document's rule for the codes of row r: the back child is r-1, the front child r-1 less the rows of the back child's tree
+-- document 01's rule for the codes of row r: a row used as back child is r-1, one used as front child r-1 less the rows of the back child's tree
 pub code-back : (n : ℕ) (f : Tree) (q : Plane) (g h : Tree) → code (n + rows f) (node q g h) ≡ row (n + rows f + rows (node q g h) - 1)
 unfolding code rows
 code-back n f q g h = ap row (omega arith)
@@ -31,6 +21,7 @@ pub code-front : (n : ℕ) (q : Plane) (g h b : Tree) → code n (node q g h) �
 unfolding code rows
 code-front n q g h b = ap row (omega arith)
 
+-- a tree has as many rows as nodes
 pub post-length : (n : ℕ) (t : Tree) → length (post n t) ≡ rows t
 unfolding post rows
 post-length n (leaf m) = refl
@@ -39,25 +30,16 @@ post-length n (node p f b) = simp length-append (omega (arith, post-length n f, 
 code-rows : (n : ℕ) (s t : Tree) → code n s ≡ code n t → rows s ≡ rows t
 unfolding code rows
 code-rows n (leaf m) (leaf k) e = refl
-code-rows n (leaf m) (node p f b) e = absurd (let z : _≡_ {A = ℕ} 0 1 = cc in omega arith)
-code-rows n (node p f b) (leaf m) e = absurd (let z : _≡_ {A = ℕ} 0 1 = cc in omega arith)
+code-rows n (leaf m) (node p f b) e = differ (cc)
+code-rows n (node p f b) (leaf m) e = differ (cc)
 code-rows n (node p f b) (node q g c) e = let z : n + rows f + rows b ≡ n + rows g + rows c = cc in omega arith
 
--- two lists that begin alike in length
-parts : {A : Type 0} (xs us : List A) {ys vs : List A} → length xs ≡ length us → xs ++ ys ≡ us ++ vs → (xs ≡ us) × (ys ≡ vs)
-parts [] [] l e = (refl, e)
-parts [] (u ∷ us) l e = absurd (omega arith)
-parts (x ∷ xs) [] l e = absurd (omega arith)
-parts (x ∷ xs) (u ∷ us) {ys} {vs} l e =
-    let d : x ≡ u = cc in
-    let r = parts xs us {ys = ys} {vs = vs} (omega arith) (cc) in
-    (cc (r .0), r .1)
-
+-- rows and code determine the tree
 pub post-tree : (n : ℕ) (s t : Tree) → code n s ≡ code n t → post n s ≡ post n t → s ≡ t
 unfolding code post rows
 post-tree n (leaf m) (leaf k) c e = cc
-post-tree n (leaf m) (node p f b) c e = absurd (let z : _≡_ {A = ℕ} 0 1 = cc in omega arith)
-post-tree n (node p f b) (leaf m) c e = absurd (let z : _≡_ {A = ℕ} 0 1 = cc in omega arith)
+post-tree n (leaf m) (node p f b) c e = differ (cc)
+post-tree n (node p f b) (leaf m) c e = differ (cc)
 post-tree n (node p f b) (node q g h) c e =
     let l : n + rows f + rows b ≡ n + rows g + rows h = cc in
     let u = parts (post n f ++ post (n + rows f) b) (post n g ++ post (n + rows g) h) (simp length-append (omega (arith, post-length n f, post-length n g, post-length (n + rows f) b, post-length (n + rows g) h))) e in
