@@ -11,6 +11,7 @@
 -- Passed on from the files below:
 --     clip-plain        the clip without the test for a half-space coincident with the support is the same (Plain)
 --     clipTo-all        the clip by index, as a loop makes it, is the clip (Index)
+--     corners, clip-corners and what is beside them: the loop that keeps each bound's index and start vertex puts out the corners of the clip (Corners, Loop)
 --     meet-bounds, det4-bounds, side-bounds, witness-bounds, witness-side-bounds   sizes, for planes in range (Bounds)
 -- The proof: seen along the axis of its way, the support is flat, and a half-space a line (Flat, Frames). The bounds are the lines of a convex polygon (Convex, Square); a line splits its corners into
 -- a run inside and a run not inside (Split), cuts off the second (Cut), and that is what the 27 codes put out (Emit, Polygon). So it goes on through all clips (Clips), which are by the sides of the
@@ -31,17 +32,22 @@ use Rattle.whole.specs.Members.{_∈_, in-left, in-right, in-either}
 use Rattle.scope.specs.Limits.{most-halves}
 use Rattle.scope.specs.Planes.{Plane, Point, at, lead}
 use Rattle.scope.specs.Cells.{Inside, box, Cuts}
-use Rattle.scope.specs.Section.{start, rest, way, section}
+use Rattle.scope.specs.Section.{rest, way, section}
 use Rattle.theory.specs.Section.Polygon.{polygon-long}
 use Rattle.theory.specs.Section.Frames.{turn, Turns, turn-turns, way-front}
-use Rattle.theory.specs.Section.Square.{start-polygon}
-use Rattle.theory.specs.Section.Clips.{seen, inside-view, view-inside, Live, State, live, dead, clips-state, state-up}
+use Rattle.theory.specs.Section.Clips.{seen, inside-view, view-inside, Live, State, live, dead, state-up}
 use Rattle.theory.specs.Section.Sides.{sides, given, given-length, given-sides, inside-given, given-inside, section-given}
 use Rattle.theory.specs.Section.Witness.{witness-of}
 unfoldable pub use Rattle.theory.specs.Section.Witness.{witness}
 pub use Rattle.theory.specs.Section.Plain.{clip-plain}
 pub use Rattle.theory.specs.Section.Index.{clipTo-all}
 pub use Rattle.theory.specs.Section.Bounds.{Sized, meet-bounds, det4-bounds, side-bounds, witness-bounds, witness-side-bounds}
+unfoldable pub use Rattle.theory.specs.Section.Corners.{corners-from, corners}
+pub use Rattle.theory.specs.Section.Corners.{Corner, corner, index, vertex, corners-length, corners-index, corners-at, corners-index-at, corners-vertex-at, Upright, upright-at, upright-of}
+pub use Rattle.theory.specs.Section.Corners.{corner-bounds, corner-bounds-at, witness-corners, bound-side, clip-index, clips-app, clips-snoc, clips-nothing, each-at, at-each}
+pub use Rattle.theory.specs.Section.Corners.{clips-start, clips-up, clips-few, clip-few, indices-up, indices-few, clip-index-few}
+unfoldable pub use Rattle.theory.specs.Section.Loop.{prev-to, put-to}
+pub use Rattle.theory.specs.Section.Loop.{corner-side, signal-at, put-corner, put-last, put-to-length, clip-corners, clip-all-front, clip-no-front}
 pub mod Flat
 pub mod Convex
 pub mod Split
@@ -56,6 +62,8 @@ pub mod Sides
 pub mod Witness
 pub mod Index
 pub mod Bounds
+pub mod Corners
+pub mod Loop
 
 -- each bound is a side of the box or one of the half-spaces
 pub section-each : (s : Plane) (hs : List Plane) (b : Plane) → b ∈ section s hs → b ∈ (sides ++ hs)
@@ -78,7 +86,7 @@ module _ (s : Plane) (hs : List Plane) (n : lead s ≢ nought) where
   -- what holds of the bounds after all clips
   bounded : State t s k all (section s hs)
   unfolding section
-  bounded = clips-state t s k (rest (way s) ++ hs) (start (way s)) (start (way s)) (live (record { polygon = start-polygon (way s) (turn (way s) s) k; few = omega arith; keeps = λ x i. i; gives = λ x i. i }))
+  bounded = clips-start s n (rest (way s) ++ hs)
 
   -- some bounds, and none
   some : section s hs ≢ [] → Live t s k all (section s hs)

@@ -4,10 +4,11 @@
 --     inside-view, view-inside   a point of s strictly inside half-spaces is strictly inside their lines, and back
 --     Live, State, live, dead   what holds of the bounds after the half-spaces hs
 --     clips-state             it holds after every clip
+--     state-more              a clip more puts out at most one bound more
 --     state-up                the determinant of the normals is positive at each vertex
 use mathlib.Core.Path.{_≡_, refl, ap, _∙_}
 use mathlib.Core.List.{List, [], _∷_, _++_, map, append-assoc, append-nil}
-use Prim.Native.Nat.{_≤_}
+use Prim.Native.Nat.{suc, _≤_}
 use lib.ListN.{length, length-append}
 use native.Mathlib.Omega.{arith}
 use lib.IntN.{ℤ, pos, _-ℤ_, _*ℤ_}
@@ -93,8 +94,11 @@ module _ {f : Plane → Plane} (t : Turns f) (s : Plane) (k : pos 0 ⋖ f s .x) 
   no-bounds [] e = refl
   no-bounds (b ∷ bs) e = differ (cc)
 
+  clip-sights : (h : Plane) (bs : List Plane) → Polygon (sights bs) → Clipped (sight h) (sights bs) (sights (clip-by (vertex-side s h) h bs))
+  clip-sights h bs p = rw (← clip-by-map sight (vertex-side s h) (line-side (sight h)) (side-seen h) h bs) at (clipped (sight h) (sights bs) p)
+
   clip-live : (h : Plane) (hs bs : List Plane) → Live hs bs → State (hs ++ h ∷ []) (clip-by (vertex-side s h) h bs)
-  clip-live h hs bs l = go (rw (← clip-by-map sight (vertex-side s h) (line-side (sight h)) (side-seen h) h bs) at (clipped (sight h) (sights bs) (l .polygon)))
+  clip-live h hs bs l = go (clip-sights h bs (l .polygon))
     where
       go : Clipped (sight h) (sights bs) (sights (clip-by (vertex-side s h) h bs)) → State (hs ++ h ∷ []) (clip-by (vertex-side s h) h bs)
       go (gone e n) = dead (no-bounds (clip-by (vertex-side s h) h bs) e) (λ x i. let j = snoc hs h x i in lt-not-le (j .1) (n x (l .keeps x (j .0))))
@@ -108,6 +112,15 @@ module _ {f : Plane → Plane} (t : Turns f) (s : Plane) (k : pos 0 ⋖ f s .x) 
   clip-state : (h : Plane) (hs bs : List Plane) → State hs bs → State (hs ++ h ∷ []) (clip s h bs)
   clip-state h hs bs (live l) = rw (clip-plain s h bs) (clip-live h hs bs l)
   clip-state h hs bs (dead e n) = dead (clip-plain s h bs ∙ ap (λ (l : List Plane). clip-by (vertex-side s h) h l) e) (λ x i. n x (snoc hs h x i .0))
+
+  -- at most one bound more
+  pub state-more : (h : Plane) (hs bs : List Plane) → State hs bs → length (clip s h bs) ≤ suc (length bs)
+  state-more h hs bs (live l) = rw (clip-plain s h bs) (go (clip-sights h bs (l .polygon)))
+    where
+      go : Clipped (sight h) (sights bs) (sights (clip-by (vertex-side s h) h bs)) → length (clip-by (vertex-side s h) h bs) ≤ suc (length bs)
+      go (gone e n) = omega (arith, ap length e, map-length sight (clip-by (vertex-side s h) h bs))
+      go (kept c) = omega (arith, c .more, map-length sight bs, map-length sight (clip-by (vertex-side s h) h bs))
+  state-more h hs bs (dead e n) = rw (clip-plain s h bs, e) (omega arith)
 
   -- ---- all of them
 

@@ -2,6 +2,7 @@
 --     clip-by-each      what is put out is h or a bound
 --     clip-by-map       the clip of renamed bounds is the renamed clip
 --     Low, clip-by-low  a vertex not inside; where no vertex is inside, nothing is put out
+--     quiet             the table puts out nothing for a vertex not inside before another
 --     last-side, emit-high, emit-fall, emit-none   runs of vertices inside, and of vertices not inside
 --     emit-app, around-turn   one entry more at the end; one entry from the head to the end
 use mathlib.Core.Path.{_≡_, refl, sym, ap, _∙_}
@@ -73,7 +74,7 @@ pub data Low : Sign → Type 0 where
   low-1 : Low minus
 
 -- before a vertex that is not inside, one that is not inside puts out nothing; between two such and before one inside, h and its bound
-quiet : (q : Sign) {s t : Sign} → Low s → Low t → table q s t ≡ nothing
+pub quiet : (q : Sign) {s t : Sign} → Low s → Low t → table q s t ≡ nothing
 quiet q low-0 low-0 = refl
 quiet q low-0 low-1 = refl
 quiet q low-1 low-0 = refl

@@ -1,5 +1,7 @@
 -- The clip by index, as a loop makes it: what the bounds 0, 1, .. put out, each by the sides of the vertices before, at and after it in the cycle.
 --     prior, next       the index before i and the one after it, in a cycle of n
+--     prior-less, next-less, next-prior   both are indices of the cycle, and the one after the one before i is i
+--     prior-at          the entry before entry i, in a list that closes
 --     side-at, put-at   the side of the vertex where the edge on bound i starts; what bound i puts out
 --     clipTo            what the first i bounds put out
 --     clipTo-all        what all of them put out is scope's clip
@@ -33,9 +35,28 @@ wrap-less n i h = rw (eq-false i n (λ e. omega arith))
 wrap-self : (n : ℕ) → wrap n n ≡ 0
 wrap-self n = rw (eq-true n)
 
+pub prior-less : (n i : ℕ) → i < n → prior n i < n
+prior-less n zero l = omega arith
+prior-less n (suc i) l = omega arith
+
+pub next-less : (n i : ℕ) → i < n → next n i < n
+next-less n i l = go (n - suc i) refl
+  where
+    go : (k : ℕ) → n - suc i ≡ k → next n i < n
+    go zero e = let f : suc i ≡ n = omega arith in rw (f, wrap-self n) (omega arith)
+    go (suc k) e = rw (wrap-less n (suc i) (omega arith)) (omega arith)
+
+pub next-prior : (n i : ℕ) → i < n → next n (prior n i) ≡ i
+next-prior n zero l = let f : suc (n - 1) ≡ n = omega arith in rw f (wrap-self n)
+next-prior n (suc i) l = wrap-less n (suc i) l
+
 last-at : {A : Type 0} (x : A) (xs : List A) (d : A) → getD (x ∷ xs) (length xs) d ≡ final x xs
 last-at x [] d = refl
 last-at x (y ∷ ys) d = last-at y ys d
+
+pub prior-at : {A : Type 0} (x : A) (xs : List A) (d : A) (i : ℕ) → getD (final x xs ∷ x ∷ xs) i d ≡ getD (x ∷ xs) (prior (length (x ∷ xs)) i) d
+prior-at x xs d zero = let k : length xs ≡ length (x ∷ xs) - 1 = omega arith in sym (last-at x xs d) ∙ ap (λ (n : ℕ). getD (x ∷ xs) n d) k
+prior-at x xs d (suc i) = refl
 
 last-side-app : {A : Type 0} (q : Sign) (es : List (Sign × A)) (e : Sign × A) → last-side q (es ++ e ∷ []) ≡ e .0
 last-side-app q [] e = refl
@@ -61,10 +82,6 @@ module _ {A : Type 0} (side : A → A → Sign) (h d : A) where
   attach-at p (b ∷ bs) zero l = refl
   attach-at p (b ∷ bs) (suc i) l = attach-at b bs i (omega arith)
 
-  prior-at : (b : A) (bs : List A) (i : ℕ) → getD (final b bs ∷ b ∷ bs) i d ≡ getD (b ∷ bs) (prior (length (b ∷ bs)) i) d
-  prior-at b bs zero = let k : length bs ≡ length (b ∷ bs) - 1 = omega arith in sym (last-at b bs d) ∙ ap (λ (n : ℕ). getD (b ∷ bs) n d) k
-  prior-at b bs (suc i) = refl
-
   -- bounds that are not none, and their entries: each bound with its side
   module _ (b : A) (bs : List A) where
     abbrev all : List A
@@ -78,7 +95,7 @@ module _ {A : Type 0} (side : A → A → Sign) (h d : A) where
     begin = final (side (final b bs) b, b) (attach side b bs) .0
 
     entry-at : (i : ℕ) → i < length all → getD entries i (plus, d) ≡ (side-at all i, getD all i d)
-    entry-at i l = attach-at (final b bs) all i l ∙ ap (λ (x : A). (side x (getD all i d), getD all i d)) (prior-at b bs i)
+    entry-at i l = attach-at (final b bs) all i l ∙ ap (λ (x : A). (side x (getD all i d), getD all i d)) (prior-at b bs d i)
 
     prior-side : (i : ℕ) → i < length all → last-side begin (take i entries) ≡ side-at all (prior (length all) i)
     prior-side zero l =

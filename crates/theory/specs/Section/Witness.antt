@@ -1,5 +1,6 @@
 -- The witness of a section: its first three vertices, added.
 --     witness      the sum
+--     at-meet      a plane at the point on three planes is the 4×4 determinant of the four
 --     witness-of   where the bounds are those of a convex polygon it lies on the support and inside each bound, and its w is positive
 use mathlib.Core.Path.{_≡_, sym, subst, _∙_}
 use mathlib.Core.List.{List, [], _∷_}
@@ -36,7 +37,7 @@ at-added : (h p q r : Plane) → at h (added p q r) ≡ at h p +ℤ at h q +ℤ 
 unfolding at
 at-added = solve (vec4s 4) (λ h p q r. dot4ᴱ h (record { x = p .x ⊕ q .x ⊕ r .x; y = p .y ⊕ q .y ⊕ r .y; z = p .z ⊕ q .z ⊕ r .z; w = p .w ⊕ q .w ⊕ r .w }) ≐ dot4ᴱ h p ⊕ dot4ᴱ h q ⊕ dot4ᴱ h r) tt
 
-at-meet : (s p q h : Plane) → at h (meet s p q) ≡ det4 s p q h
+pub at-meet : (s p q h : Plane) → at h (meet s p q) ≡ det4 s p q h
 unfolding at meet
 at-meet s p q h = sym (det4-last s p q h)
 
