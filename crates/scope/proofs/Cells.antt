@@ -11,9 +11,10 @@ use Rattle.whole.specs.Lin.{lin, _⊢_, _≺_, _≋_}
 use Rattle.whole.specs.Order.{_⋖_}
 use Rattle.whole.specs.Members.{here, there}
 use Rattle.scope.specs.Limits.{reach}
-use Rattle.scope.specs.Planes.{Plane, Point, at, flip}
-use Rattle.scope.specs.Solids.{IN, OUT, Tree, leaf, node, marked, ON, reply}
+use Rattle.scope.specs.Planes.{Plane, Point, at, flip, equal}
+use Rattle.scope.specs.Solids.{IN, OUT, Tree, leaf, node, walk, marked, ON, reply}
 use Rattle.scope.specs.Cells.{box, Cuts, end, cut, fore, aft, join, union, intersection, difference, operate, Merged}
+use Rattle.scope.specs.Normal.{space, taking, Boundary}
 use Rattle.scope.proofs.Kit.{pl, m}
 use Rattle.scope.proofs.Points.{tested, test, same-front, same-back}
 
@@ -89,3 +90,12 @@ beyond = refl
 
 pub in-out : IN ≡ OUT → ⊥
 in-out e = differ (cc)
+
+-- ---- a plane with the same solid on both sides is no boundary plane: the walks that differ at x alone end alike
+
+abbrev both-sides : Tree
+both-sides = node px B B
+
+no-boundary : ¬ Boundary (space both-sides) px
+unfolding walk taking equal
+no-boundary b = b .differ refl

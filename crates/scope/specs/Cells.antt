@@ -69,6 +69,7 @@ module _ (J : Plane → Tree → Tree → Tree) (L : List Plane → Mark → Tre
     fore : {c : List Plane} {p : Plane} {f b r : Tree} → AllFront p c → Walked c f r → Walked c (node p f b) r
     aft : {c : List Plane} {p : Plane} {f b r : Tree} → AllBack p c → Walked c b r → Walked c (node p f b) r
 
+-- for a cell that has points: an empty one lies on both sides of every plane
 abbrev pub Trimmed : List Plane → Tree → Tree → Type 0
 Trimmed = Walked node (λ c m r. r ≡ leaf m)
 

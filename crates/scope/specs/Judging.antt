@@ -50,14 +50,6 @@ with-plane r st f b none = none
 unfoldable pub add-row : List Plane → ℕ → List Sub → Entry → Option (List Sub)
 add-row ps r st (entry n f b) = with-plane r st f b (getElem? ps n)
 
-abbrev pub build-on : Option (List Sub) → (List Sub → Option (List Sub)) → Option (List Sub)
-build-on (some st) k = k st
-build-on none k = none
-
-unfoldable pub build : List Plane → ℕ → List Sub → List Entry → Option (List Sub)
-build ps r st [] = some st
-build ps r st (e ∷ es) = build-on (add-row ps r st e) (λ st′. build ps (suc r) st′ es)
-
 -- F.13: each of the planes below n is used by some node
 unfoldable pub uses : ℕ → List Entry → Bool
 uses k [] = false
@@ -77,18 +69,6 @@ one-tree (t ∷ u ∷ st) = false
 unfoldable pub root-ok : ℕ → ℕ → Bool
 root-ok zero r = eqb r 65535 or eqb r 65534
 root-ok (suc m) r = eqb r m
-
--- the tree of tables
-abbrev pub root-tree : ℕ → List Sub → Tree
-root-tree r [] = cond (eqb r 65535) (leaf IN) (leaf OUT)
-root-tree r (t ∷ st) = tree t
-
-abbrev pub root-of : ℕ → Option (List Sub) → Tree
-root-of r (some st) = root-tree r st
-root-of r none = leaf OUT
-
-unfoldable pub tree-of : Tables → Tree
-tree-of (tables ps es r) = root-of r (build ps 0 [] es)
 
 -- ---- one line; within a line the lowest number (R.12)
 
@@ -221,9 +201,15 @@ node-table (n ∷ []) fs = other ∷ fs
 node-table (n ∷ f ∷ []) fs = other ∷ fs
 node-table (n ∷ f ∷ b ∷ l) fs = node-row (entry n f b) ∷ node-table l fs
 
--- the counts are those of the tables, which are as large as they are
-unfoldable pub judge-lent : List ℤ → List ℕ → ℕ → Verdict
-judge-lent ps ns r = finish (read-solid (record { plane-rows = length ps / 4; node-rows = length ns / 3 }) fresh 1 (head (length ps / 4) (length ns / 3) r ∷ plane-table ps (node-table ns (end ∷ []))))
+-- a solid as it is lent to a call; its counts are those of the tables, which are as large as they are
+pub record Lent : Type 0 where
+  pub planes : List ℤ
+  pub nodes : List ℕ
+  pub root : ℕ
+
+unfoldable pub judge-lent : Lent → Verdict
+judge-lent a = finish (read-solid (record { plane-rows = length (a .planes) / 4; node-rows = length (a .nodes) / 3 }) fresh 1
+    (head (length (a .planes) / 4) (length (a .nodes) / 3) (a .root) ∷ plane-table (a .planes) (node-table (a .nodes) (end ∷ []))))
 
 -- ---- the merge program's input: operation, A, B (R.7, R.16)
 

@@ -32,9 +32,20 @@ most-text = 32768
 abbrev pub most-work : ℕ
 most-work = 100000
 
+-- R.11: that length, one constant whatever the input
+abbrev pub stated : ℕ
+stated = 4096
+
 -- N.9: a point given to a call: x, y, z in size, and w
 abbrev pub most-xyz : ℕ
 most-xyz = 1000000000000000
 
 abbrev pub most-w : ℕ
 most-w = 10000000000
+
+-- X.12: plane rows and node rows that programs lend for a result
+abbrev pub program-planes : ℕ
+program-planes = 128
+
+abbrev pub program-nodes : ℕ
+program-nodes = 1000

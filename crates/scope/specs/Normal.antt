@@ -52,13 +52,13 @@ pub record Boundary (S : Space) (p : Plane) : Type 0 where
 pub record Uniform (S : Space) (c : List Plane) (m : Mark) : Type 0 where
   pub all : (X : Point) → Inside c X → Off (S .list) X → S .mark (front X) ≡ m
 
--- B.2: the first boundary plane, in order, that cuts the cell
+-- B.3: the first listed plane that cuts the cell; the boundary planes are listed in order (B.2)
 pub record First (S : Space) (c : List Plane) (p : Plane) : Type 0 where
   pub boundary : Boundary S p
   pub cuts : Cuts p c
   pub least : (q : Plane) → Boundary S q → Cuts q c → ¬ T (before q p)
 
--- B.3: a uniform cell is a leaf; any other is split by the first plane
+-- B.3: a uniform cell is a leaf; any other is split by that plane
 pub data Normal (S : Space) : List Plane → Tree → Type 0 where
   uniform : {c : List Plane} {m : Mark} → Uniform S c m → Normal S c (leaf m)
   split : {c : List Plane} {p : Plane} {f b : Tree} → ((m : Mark) → ¬ Uniform S c m) → First S c p → Normal S (p ∷ c) f → Normal S (flip p ∷ c) b → Normal S c (node p f b)

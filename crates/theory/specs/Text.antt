@@ -30,6 +30,7 @@ pub mod Lines
 pub mod Numbers
 pub mod Frames
 pub mod Rows
+pub mod Build
 pub mod Stacks
 pub mod Uses
 pub mod Trees

@@ -21,7 +21,8 @@ use Rattle.scope.specs.Limits.{most-planes, most-nodes, most-text}
 use Rattle.scope.specs.Planes.{Plane, Lawful}
 use Rattle.scope.specs.Solids.{Tree, Entry, Tables, tables, tables-of, LawfulTree}
 use Rattle.scope.specs.Text.{Frame, head, end, frames, written, plane-frames, node-frames, solid-frames, text, text-of}
-use Rattle.scope.specs.Judging.{Sub, build, tree-of, Rooms, State, fresh, busy, Step, go, done, stop, in-rooms, follows, step, Reading, read, refused, next, read-solid, accepted, refusal, finish, judge}
+use Rattle.scope.specs.Judging.{Sub, Rooms, State, fresh, busy, Step, go, done, stop, in-rooms, follows, step, Reading, read, refused, next, read-solid, accepted, refusal, finish, judge}
+use Rattle.theory.specs.Text.Build.{build, tree-of}
 use Rattle.theory.specs.Planes.Lists.{Ascending, empty, next as after}
 use Rattle.theory.specs.Text.Frames.{Fits, Good, good-fits, frames-written, written-frames}
 use Rattle.theory.specs.Text.Stacks.{build-cons}

@@ -1,5 +1,5 @@
 -- Tables lent directly: rows one after the other, judged as if written out and read.
---     flat-planes, flat-nodes, Flat   the rows of tables, one after the other
+--     lent, Flat                      tables lent as flat tables, and the rows of tables, one after the other
 --     lent-accepted, lent-taken       lent tables are taken exactly if they are those of lawful tables
 --     lent-as-text, lent-as-read      tables that can be written get the verdict of their text
 --     lent-frames, lent-refused, refused-lent   lent tables that are refused: the rule that their first bad line breaks
@@ -19,8 +19,8 @@ use Rattle.scope.specs.Limits.{most-text}
 use Rattle.scope.specs.Planes.{Plane}
 use Rattle.scope.specs.Solids.{Entry, entry, Tables, tables}
 use Rattle.scope.specs.Text.{Frame, other, head, plane, node-row, end, plane-frames, node-frames, solid-frames, text, written}
-use Rattle.scope.specs.Judging.{Rooms, fresh, Reading, read, refused, read-solid, accepted, refusal, finish, judge, plane-table, node-table, judge-lent}
-use Rattle.scope.specs.Answers.{Answer, solid-then}
+use Rattle.scope.specs.Judging.{Rooms, fresh, Reading, read, refused, read-solid, accepted, refusal, finish, judge, plane-table, node-table, Lent, judge-lent}
+use Rattle.scope.specs.Answers.{Answer, solid-then, flat-planes, flat-nodes}
 use Rattle.theory.specs.Text.Frames.{frames-written}
 use Rattle.theory.specs.Text.Trees.{LawfulTables}
 use Rattle.theory.specs.Text.Sizes.{Writable, solid-fits, solid-length}
@@ -31,15 +31,8 @@ use Rattle.theory.specs.Text.Reached.{none-yet}
 
 -- ---- rows, one after the other
 
--- 4 numbers a plane
-unfoldable pub flat-planes : List Plane → List ℤ
-flat-planes [] = []
-flat-planes (p ∷ ps) = p .x ∷ p .y ∷ p .z ∷ p .w ∷ flat-planes ps
-
--- 3 numbers a node
-unfoldable pub flat-nodes : List Entry → List ℕ
-flat-nodes [] = []
-flat-nodes (entry n f b ∷ es) = n ∷ f ∷ b ∷ flat-nodes es
+abbrev pub lent : List ℤ → List ℕ → ℕ → Lent
+lent xs ns r = record { planes = xs; nodes = ns; root = r }
 
 -- xs and ns are the rows of planes and of nodes, and r is the root code
 pub record FlatParts (ps : List Plane) (es : List Entry) (u : ℕ) (xs : List ℤ) (ns : List ℕ) (r : ℕ) : Type 0 where
@@ -98,33 +91,33 @@ module _ (ps : List Plane) (es : List Entry) where
   frames-flat r = λ i. head (planes-rows i) (nodes-rows i) r ∷ (planes-table ps (node-table (flat-nodes es) (end ∷ [])) ∙ ap (plane-frames ps) (nodes-table es (end ∷ []))) i
 
   -- whole rows are judged by the frames of their tables
-  lent-whole : (r : ℕ) → judge-lent (flat-planes ps) (flat-nodes es) r ≡ finish (read-solid own-rooms fresh 1 (solid-frames (tables ps es r) []))
+  lent-whole : (r : ℕ) → judge-lent (lent (flat-planes ps) (flat-nodes es) r) ≡ finish (read-solid own-rooms fresh 1 (solid-frames (tables ps es r) []))
   unfolding judge-lent
   lent-whole r = λ i. finish (read-solid (rooms-own i) fresh 1 (frames-flat r i))
 
   -- the rows of lawful tables are taken as those tables
-  pub lent-accepted : (r : ℕ) → LawfulTables (tables ps es r) → judge-lent (flat-planes ps) (flat-nodes es) r ≡ accepted (tables ps es r)
+  pub lent-accepted : (r : ℕ) → LawfulTables (tables ps es r) → judge-lent (lent (flat-planes ps) (flat-nodes es) r) ≡ accepted (tables ps es r)
   lent-accepted r h = lent-whole r ∙ ap finish (solid-reads own-rooms (tables ps es r) 1 [] h room)
     where
       room : Roomy own-rooms (tables ps es r)
       room = and-make (leb (length ps) (length ps)) (leb (length es) (length es)) (le→leb (length ps) (length ps) (le-refl (length ps))) (le→leb (length es) (length es) (le-refl (length es)))
 
   -- as if written out and read
-  pub lent-as-text : (r : ℕ) → Writable (tables ps es r) → length (text (tables ps es r)) ≤ most-text → judge-lent (flat-planes ps) (flat-nodes es) r ≡ judge own-rooms (text (tables ps es r))
+  pub lent-as-text : (r : ℕ) → Writable (tables ps es r) → length (text (tables ps es r)) ≤ most-text → judge-lent (lent (flat-planes ps) (flat-nodes es) r) ≡ judge own-rooms (text (tables ps es r))
   unfolding judge text
   lent-as-text r w h = lent-whole r ∙ sym (rw (le-true (length (text (tables ps es r))) most-text h) (ap (λ i. finish (read-solid own-rooms fresh 1 i)) (frames-written (solid-fits (tables ps es r) [] w none))))
 
   -- a text that is too long has too many planes or nodes, and so have the tables
-  lent-too-long : (r : ℕ) → most-text < length (text (tables ps es r)) → judge-lent (flat-planes ps) (flat-nodes es) r ≡ refusal 3 1
+  lent-too-long : (r : ℕ) → most-text < length (text (tables ps es r)) → judge-lent (lent (flat-planes ps) (flat-nodes es) r) ≡ refusal 3 1
   unfolding solid-frames text written
   lent-too-long r h = lent-whole r ∙ ap finish (refused-solid {n = 3} {l = 1} (record { good = []; rest = solid-frames (tables ps es r) []; state = fresh; parts = refl; passed = none-yet; line = refl; fails = bad-line (over (λ i j. omega (arith, solid-length ps es r []))) }))
 
   -- so a call answers for lent tables as for their text, whatever its length
-  pub lent-as-read : {A : Type 0} (r : ℕ) (k : Tables → Answer A) → Writable (tables ps es r) → solid-then (judge-lent (flat-planes ps) (flat-nodes es) r) k ≡ solid-then (judge own-rooms (text (tables ps es r))) k
+  pub lent-as-read : {A : Type 0} (r : ℕ) (k : Tables → Answer A) → Writable (tables ps es r) → solid-then (judge-lent (lent (flat-planes ps) (flat-nodes es) r)) k ≡ solid-then (judge own-rooms (text (tables ps es r))) k
   unfolding judge
   lent-as-read r k w = by (leb (length (text (tables ps es r))) most-text) (leb→le (length (text (tables ps es r))) most-text) (nleb→lt (length (text (tables ps es r))) most-text)
     where
-      by : (b : Bool) → (T b → length (text (tables ps es r)) ≤ most-text) → (T (not b) → most-text < length (text (tables ps es r))) → solid-then (judge-lent (flat-planes ps) (flat-nodes es) r) k ≡ solid-then (judge own-rooms (text (tables ps es r))) k
+      by : (b : Bool) → (T b → length (text (tables ps es r)) ≤ most-text) → (T (not b) → most-text < length (text (tables ps es r))) → solid-then (judge-lent (lent (flat-planes ps) (flat-nodes es) r)) k ≡ solid-then (judge own-rooms (text (tables ps es r))) k
       by true f g = ap (λ v. solid-then v k) (lent-as-text r w (f tt))
       by false f g =
           let h = g tt in
@@ -190,7 +183,7 @@ lent-same xs ns r (tables ps es u) rest e = at-planes (planes-back xs ps (node-t
 -- ---- taken, or refused
 
 -- rows that are taken are the rows of the tables answered, which are lawful
-pub lent-taken : (xs : List ℤ) (ns : List ℕ) (r : ℕ) (a : Tables) → judge-lent xs ns r ≡ accepted a → Flat a xs ns r × LawfulTables a
+pub lent-taken : (xs : List ℤ) (ns : List ℕ) (r : ℕ) (a : Tables) → judge-lent (lent xs ns r) ≡ accepted a → Flat a xs ns r × LawfulTables a
 unfolding judge-lent
 lent-taken xs ns r a e =
     let x = finish-accepted (read-solid (lent-rooms xs ns) fresh 1 (lent-frames xs ns r)) a e in
@@ -198,7 +191,7 @@ lent-taken xs ns r a e =
     (lent-same xs ns r a [] (y .frames-are) .flat, y .lawful)
 
 -- rows that are refused break the rule of that number at that line, and none before
-pub lent-refused : (xs : List ℤ) (ns : List ℕ) (r n l : ℕ) → judge-lent xs ns r ≡ refusal n l → RefusedAt (lent-rooms xs ns) fresh 1 (lent-frames xs ns r) n l
+pub lent-refused : (xs : List ℤ) (ns : List ℕ) (r n l : ℕ) → judge-lent (lent xs ns r) ≡ refusal n l → RefusedAt (lent-rooms xs ns) fresh 1 (lent-frames xs ns r) n l
 unfolding judge-lent
 lent-refused xs ns r n l = by (read-solid (lent-rooms xs ns) fresh 1 (lent-frames xs ns r)) refl
   where
@@ -208,6 +201,6 @@ lent-refused xs ns r n l = by (read-solid (lent-rooms xs ns) fresh 1 (lent-frame
     by (refused m k) h e = let x : m ≡ n = cc in let y : k ≡ l = cc in solid-refused (lent-rooms xs ns) fresh 1 (lent-frames xs ns r) n l (h ∙ (λ j. refused (x j) (y j)))
 
 -- and back
-pub refused-lent : (xs : List ℤ) (ns : List ℕ) (r n l : ℕ) → RefusedAt (lent-rooms xs ns) fresh 1 (lent-frames xs ns r) n l → judge-lent xs ns r ≡ refusal n l
+pub refused-lent : (xs : List ℤ) (ns : List ℕ) (r n l : ℕ) → RefusedAt (lent-rooms xs ns) fresh 1 (lent-frames xs ns r) n l → judge-lent (lent xs ns r) ≡ refusal n l
 unfolding judge-lent
 refused-lent xs ns r n l x = ap finish (refused-solid x)

@@ -17,7 +17,8 @@ use Rattle.scope.specs.Limits.{most-planes, most-nodes}
 use Rattle.scope.specs.Planes.{Plane, Lawful}
 use Rattle.scope.specs.Solids.{rows, Entry}
 use Rattle.scope.specs.Text.{Frame, head, plane, node-row, plane-frames, node-frames}
-use Rattle.scope.specs.Judging.{Sub, sub, tree, add-row, build-on, build, root-ok, Rooms, State, fresh, busy, go, follows, step}
+use Rattle.scope.specs.Judging.{Sub, sub, tree, add-row, root-ok, Rooms, State, fresh, busy, go, follows, step}
+use Rattle.theory.specs.Text.Build.{build-on, build}
 use Rattle.theory.specs.Planes.Order.{Before, before-trans}
 use Rattle.theory.specs.Planes.Lists.{Ascending, empty, next}
 use Rattle.theory.specs.Text.Stacks.{Stands, stands-none, build-cons, build-stands}

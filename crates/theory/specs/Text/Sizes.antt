@@ -16,7 +16,8 @@ use Rattle.scope.specs.Limits.{most-planes, most-nodes}
 use Rattle.scope.specs.Planes.{Plane, Lawful}
 use Rattle.scope.specs.Solids.{IN, OUT, Tree, leaf, node, rows, planes, code, post, number, place, Entry, entry, entries, ascending, Tables, tables, tables-of, LawfulTree}
 use Rattle.scope.specs.Text.{hexes, line, Frame, head, plane, node-row, end, bytes, written, plane-frames, node-frames, solid-frames, text}
-use Rattle.scope.specs.Judging.{root-ok, tree-of}
+use Rattle.scope.specs.Judging.{root-ok}
+use Rattle.theory.specs.Text.Build.{tree-of}
 use Rattle.theory.specs.Planes.Lists.{ascending-same, place-at}
 use Rattle.theory.specs.Planes.Faults.{ranged}
 use Rattle.theory.specs.Text.Numbers.{Half}

@@ -14,7 +14,8 @@ use Rattle.whole.specs.Members.{_∈_, in-left, elem-in, elem-small, elem-at, i
 use Rattle.whole.specs.Tests.{_or_}
 use Rattle.scope.specs.Planes.{Plane, Lawful}
 use Rattle.scope.specs.Solids.{IN, OUT, Tree, leaf, node, rows, planes, code, post, Entry, Tables, tables, number, ascending, entries, tables-of, LawfulTree}
-use Rattle.scope.specs.Judging.{Sub, sub, build, uses, all-used, one-tree, root-ok, root-tree, root-of, tree-of}
+use Rattle.scope.specs.Judging.{Sub, sub, uses, all-used, one-tree, root-ok}
+use Rattle.theory.specs.Text.Build.{build, root-tree, root-of, tree-of}
 use Rattle.scope.specs.Limits.{most-planes, most-nodes}
 use Rattle.theory.specs.Planes.Lists.{Ascending, ascending-one, ascending-law, ascending-same, place-at, place-of}
 use Rattle.theory.specs.Text.Stacks.{Stands, stands-none, build-stands, push, build-tree, rows-length}
