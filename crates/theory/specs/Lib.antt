@@ -5,3 +5,4 @@ pub mod Cells
 pub mod Forms
 pub mod Text
 pub mod Theorems
+pub mod Answers

@@ -37,6 +37,17 @@ operation-of (suc (suc (suc zero))) t = (difference, refl)
 operation-of (suc (suc (suc (suc o)))) t = let u = and-split (leb 1 (suc (suc (suc (suc o))))) (leb (suc (suc (suc (suc o)))) 3) t in absurd (omega (arith, leb→le (suc (suc (suc (suc o)))) 3 (u .1)))
 
 -- and back
+pub operation-one : (x y : Operation) → operation-code x ≡ operation-code y → x ≡ y
+operation-one union union e = refl
+operation-one union intersection e = absurd (omega arith)
+operation-one union difference e = absurd (omega arith)
+operation-one intersection union e = absurd (omega arith)
+operation-one intersection intersection e = refl
+operation-one intersection difference e = absurd (omega arith)
+operation-one difference union e = absurd (omega arith)
+operation-one difference intersection e = absurd (omega arith)
+operation-one difference difference e = refl
+
 pub operation-known : (x : Operation) → T (known (operation-code x))
 unfolding known
 operation-known union = tt

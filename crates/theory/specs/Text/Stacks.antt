@@ -18,8 +18,8 @@ use Rattle.whole.specs.Tests.{eq-true, eq-false, differ}
 use Rattle.scope.specs.Planes.{Plane}
 use Rattle.scope.specs.Solids.{Mark, IN, OUT, Tree, leaf, node, rows, planes, mark, Row, a-row, code, post, Entry, entry, number, entry-of, entries}
 use Rattle.scope.specs.Judging.{Sub, sub, tree, Child, child, against, due-row, take-child, with-front, with-back, with-plane, add-row}
-use Rattle.theory.specs.Text.Build.{build-on, build}
 use Rattle.scope.specs.Limits.{most-nodes}
+use Rattle.theory.specs.Text.Build.{build-on, build}
 use Rattle.theory.specs.Planes.Lists.{Ascending, place-at, place-of}
 use Rattle.theory.specs.Text.Rows.{post-length}
 

@@ -15,8 +15,8 @@ use Rattle.whole.specs.Tests.{_or_}
 use Rattle.scope.specs.Planes.{Plane, Lawful}
 use Rattle.scope.specs.Solids.{IN, OUT, Tree, leaf, node, rows, planes, code, post, Entry, Tables, tables, number, ascending, entries, tables-of, LawfulTree}
 use Rattle.scope.specs.Judging.{Sub, sub, uses, all-used, one-tree, root-ok}
-use Rattle.theory.specs.Text.Build.{build, root-tree, root-of, tree-of}
 use Rattle.scope.specs.Limits.{most-planes, most-nodes}
+use Rattle.theory.specs.Text.Build.{build, root-tree, root-of, tree-of}
 use Rattle.theory.specs.Planes.Lists.{Ascending, ascending-one, ascending-law, ascending-same, place-at, place-of}
 use Rattle.theory.specs.Text.Stacks.{Stands, stands-none, build-stands, push, build-tree, rows-length}
 use Rattle.theory.specs.Text.Uses.{all-used-make, all-used-get, uses-post, post-uses}
@@ -141,3 +141,8 @@ tree-lawful (tables ps es r) l = parts-tree ps es r l
 -- and the tables of it are those tables
 pub tables-tree : (s : Tables) → LawfulTables s → tables-of (tree-of s) ≡ s
 tables-tree (tables ps es r) l = parts-tables ps es r l
+
+-- a tree whose tables are lawful is lawful
+pub lawful-back : (t : Tree) → LawfulTables (tables-of t) → LawfulTree t
+unfolding tables-of
+lawful-back t l = record { each = λ p m. l .each p (ascending-same (planes t) .to p m); few-planes = l .few-planes; few-rows = rw (rows-length (ascending (planes t)) t) at (l .few-rows) }

@@ -1,0 +1,6 @@
+pub mod Sizes
+pub mod Laws
+pub mod Box
+pub mod Sorted
+pub mod Meets
+pub mod Told

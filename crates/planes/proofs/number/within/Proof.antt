@@ -1,0 +1,14 @@
+-- `planes::number::within` meets its contract. Assumes nothing.
+use borrow.Author.Needs.{needs}
+use mir.Facts.{toZ-ofZ}
+use Rattle.planes.proofs.number.within.Statement.{statement}
+use Rattle.planes.proofs.number.within.Tie as tie
+
+size-requires : tie.Need-size-requires
+size-requires c κs = search needs
+
+returns : tie.Need-returns
+returns c = cc (c .size .ensures, toZ-ofZ (c .before .fits .x))
+
+pub within-spec : {M : Type 1} → statement M
+within-spec = tie.close (tie.spec size-requires returns)

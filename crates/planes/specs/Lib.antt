@@ -1,0 +1,5 @@
+pub mod Values
+pub mod Bounds
+pub mod Promises
+pub mod Only
+pub mod Follows
