@@ -24,6 +24,7 @@
 -- For code
 --     lines-whole, lines-torn (Lines)              what a loop over characters meets
 --     step-sound, passed-sound, rows-outside (Reached)   what holds of every state that lines lead to
+--     kept-used, entries-renumbered (Renumber)           rows streamed over a longer plane list, renumbered
 --     row-size, one-sizes (Counts), uses-end (Uses)      sizes of trees in place of trees, and which planes a row uses
 pub mod Hex
 pub mod Lines
@@ -42,3 +43,4 @@ pub mod Refusals
 pub mod MergeInput
 pub mod Lent
 pub mod Counts
+pub mod Renumber
