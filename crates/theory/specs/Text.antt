@@ -24,6 +24,7 @@
 -- For code
 --     lines-whole, lines-torn (Lines)              what a loop over characters meets
 --     step-sound, passed-sound, rows-outside (Reached)   what holds of every state that lines lead to
+--     filled-more, planes-end, nodes-end (Filled)        tables filled row by row
 --     kept-used, entries-renumbered (Renumber)           rows streamed over a longer plane list, renumbered
 --     row-size, one-sizes (Counts), uses-end (Uses)      sizes of trees in place of trees, and which planes a row uses
 pub mod Hex
@@ -41,6 +42,7 @@ pub mod Reached
 pub mod Judge
 pub mod Refusals
 pub mod MergeInput
+pub mod Filled
 pub mod Lent
 pub mod Counts
 pub mod Renumber

@@ -21,6 +21,7 @@ use Rattle.scope.specs.Solids.{Entry, entry, Tables, tables}
 use Rattle.scope.specs.Text.{Frame, other, head, plane, node-row, end, plane-frames, node-frames, solid-frames, text, written}
 use Rattle.scope.specs.Judging.{Rooms, fresh, Reading, read, refused, read-solid, accepted, refusal, finish, judge, plane-table, node-table, Lent, judge-lent}
 use Rattle.scope.specs.Answers.{Answer, solid-then, flat-planes, flat-nodes}
+use Rattle.theory.specs.Text.Filled.{planes-count, nodes-count}
 use Rattle.theory.specs.Text.Frames.{frames-written}
 use Rattle.theory.specs.Text.Trees.{LawfulTables}
 use Rattle.theory.specs.Text.Sizes.{Writable, solid-fits, solid-length}
@@ -42,16 +43,6 @@ pub record FlatParts (ps : List Plane) (es : List Entry) (u : ℕ) (xs : List �
 
 abbrev pub Flat : Tables → List ℤ → List ℕ → ℕ → Type 0
 Flat (tables ps es u) xs ns r = FlatParts ps es u xs ns r
-
-planes-count : (ps : List Plane) → length (flat-planes ps) ≡ 4 * length ps
-unfolding flat-planes
-planes-count [] = refl
-planes-count (p ∷ ps) = omega (arith, planes-count ps)
-
-nodes-count : (es : List Entry) → length (flat-nodes es) ≡ 3 * length es
-unfolding flat-nodes
-nodes-count [] = refl
-nodes-count (entry n f b ∷ es) = omega (arith, nodes-count es)
 
 planes-table : (ps : List Plane) (fs : List Frame) → plane-table (flat-planes ps) fs ≡ plane-frames ps fs
 unfolding flat-planes plane-table

@@ -1,0 +1,10 @@
+pub mod Rules
+pub mod Cells
+pub mod Kept
+pub mod Sums
+pub mod Put
+pub mod Loops
+pub mod Clips
+pub mod Rows
+pub mod Sections
+pub mod Told

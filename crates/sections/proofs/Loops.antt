@@ -1,0 +1,236 @@
+-- The loops over the corners of a polygon: the sides of each, the index put out last, what is put out; and the four corners of the start.
+use mathlib.Core.Path.{_≡_, refl, sym, ap, _∙_}
+use mathlib.Core.Logic.{_≢_}
+use mathlib.Core.Bool.{Bool, true}
+use mathlib.Core.List.{List, [], _∷_, _++_}
+use Prim.Native.Nat.{ℕ, zero, suc, _+_, _-_, _*_, _≤_, _<_}
+use native.Mathlib.Numerals.{add-one}
+use native.Mathlib.Omega.{arith}
+use lib.IntN.{ℤ, pos}
+use lib.ListN.{length, getD, set, take, length-append}
+use lib.Dec.{T, ltb, ltb→lt}
+use lib.Seq.{getD-set-same, getD-set-other, getD-take, take-suc, take-all}
+use Rattle.whole.specs.Tests.{_and_, and-split}
+use Rattle.whole.specs.Sign.{Sign, plus}
+use Rattle.scope.specs.Planes.{Plane, meet, in-range}
+use Rattle.scope.specs.Section as scope
+use Rattle.theory.specs.Section.{Corner, corner, index, vertex, corners, corners-length, corners-at, put-corner, put-last}
+use Rattle.theory.specs.Section.Index.{prior}
+use Rattle.planes.specs.declared.Plane as struct
+use Rattle.sections.specs.declared.Place.{Place}
+use Rattle.sections.specs.declared.Signal.{Signal}
+use Rattle.sections.specs.declared.Signal.the-variants.{Nothing, B, HB}
+use Rattle.sections.specs.Values.{code, signal-is, signal-of, way-of, six, starts}
+use Rattle.sections.specs.Tables.{look, corner-at, read, said-at, last-to, put-all}
+use Rattle.sections.specs.Asked.{side-of, Looked, Puts}
+use Rattle.sections.proofs.Rules.{signal-from, code-plus}
+use Rattle.sections.proofs.Put.{puts-none}
+
+-- ---- sides
+
+pub looked-none : (h : struct.Plane) (t : List ℤ) (sides : List ℕ) → Looked h t 0 sides 0
+looked-none h t sides = record { each = λ i l. absurd (omega arith); most = omega arith; all = λ e i l. absurd (omega arith); none = λ e i l. absurd (omega arith) }
+
+-- one side more: x is stored, and r counts it if it is in front
+pub looked-more : (h : struct.Plane) (t : List ℤ) (i : ℕ) (sides : List ℕ) (f x r : ℕ) → i < length sides → Looked h t i sides f → x ≡ code (side-of h t i)
+    → (x ≡ 2 → r ≡ f + 1) × ((x ≡ 2 → ⊥) → r ≡ f) → Looked h t (i + 1) (set sides i x) r
+looked-more h t i sides f x r l k e c = go x refl
+  where
+    here : (j : ℕ) → j < i + 1 → getD (set sides i x) j 0 ≡ code (side-of h t j)
+    here j b = by (i - j) refl
+      where
+        by : (d : ℕ) → i - j ≡ d → getD (set sides i x) j 0 ≡ code (side-of h t j)
+        by zero q = let p : j ≡ i = omega arith in rw p (getD-set-same sides i x 0 l ∙ e)
+        by (suc d) q = getD-set-other sides i j x 0 (λ p. omega arith) ∙ k .each j (omega arith)
+
+    front : x ≡ 2 → Looked h t (i + 1) (set sides i x) r
+    front q =
+        let n : r ≡ f + 1 = c .0 q in
+        record {
+          each = here;
+          most = omega (arith, k .most);
+          all = λ m j b. by j b (i - j) refl (k .all (omega arith));
+          none = λ m. absurd (omega arith);
+        }
+      where
+        by : (j : ℕ) → j < i + 1 → (d : ℕ) → i - j ≡ d → ((j : ℕ) → j < i → side-of h t j ≡ plus) → side-of h t j ≡ plus
+        by j b zero p a = let s : j ≡ i = omega arith in rw s (code-plus (side-of h t i) (sym e ∙ q))
+        by j b (suc d) p a = a j (omega arith)
+
+    back : (x ≡ 2 → ⊥) → Looked h t (i + 1) (set sides i x) r
+    back q =
+        let n : r ≡ f = c .1 q in
+        record {
+          each = here;
+          most = omega (arith, k .most);
+          all = λ m. absurd (omega (arith, k .most));
+          none = λ m j b. by j b (i - j) refl (k .none (omega arith));
+        }
+      where
+        by : (j : ℕ) → j < i + 1 → (d : ℕ) → i - j ≡ d → ((j : ℕ) → j < i → side-of h t j ≢ plus) → side-of h t j ≢ plus
+        by j b zero p a = let s : j ≡ i = omega arith in rw s (λ u. q (e ∙ ap code u))
+        by j b (suc d) p a = a j (omega arith)
+
+    go : (y : ℕ) → x ≡ y → Looked h t (i + 1) (set sides i x) r
+    go zero p = back (λ q. omega arith)
+    go (suc zero) p = back (λ q. omega arith)
+    go (suc (suc zero)) p = front p
+    go (suc (suc (suc y))) p = back (λ q. omega arith)
+
+-- ---- the index put out last
+
+module _ (sides : List ℕ) (t : List ℤ) (n : ℕ) where
+  pub last-none : (p : ℕ) → p ≡ last-to sides t n p 0
+  unfolding last-to
+  last-none p = refl
+
+  pub last-more : (p i prev : ℕ) (g : Signal) → prev ≡ last-to sides t n p i → g ≡ signal-is (said-at sides n i) → put-last (signal-of g) prev (corner-at t i) ≡ last-to sides t n p (i + 1)
+  unfolding last-to
+  last-more p i prev g e f = rw add-one (let s = signal-from (said-at sides n i) f in λ j. put-last (s j) (e j) (corner-at t i))
+
+  -- it is an index of the polygon, if it was one before
+  pub last-below : (p top : ℕ) → p < top → ((i : ℕ) → i < n → index (corner-at t i) < top) → (i : ℕ) → i ≤ n → last-to sides t n p i < top
+  unfolding last-to
+  last-below p top l f zero b = l
+  last-below p top l f (suc i) b = by (corner-at t i) (said-at sides n i) (last-below p top l f i (omega arith)) (f i (omega arith))
+    where
+      by : {q : ℕ} (c : Corner) (g : scope.Signal) → q < top → index c < top → put-last g q c < top
+      by c scope.nothing a d = a
+      by c scope.B a d = d
+      by c scope.HB a d = d
+
+-- ---- what is put out
+
+module _ (s : Plane) (plane : ℕ → Plane) (k : ℕ) (sides : List ℕ) (t : List ℤ) (n p : ℕ) where
+  abbrev put-one : ℕ → List Corner
+  put-one i = put-corner s plane k (said-at sides n i) (last-to sides t n p i) (corner-at t i)
+
+  pub put-all-none : put-all s plane k sides t n p 0 ≡ []
+  unfolding put-all
+  put-all-none = refl
+
+  put-all-suc : (i : ℕ) → put-all s plane k sides t n p (suc i) ≡ put-all s plane k sides t n p i ++ put-one i
+  unfolding put-all
+  put-all-suc i = refl
+
+  put-all-more : (i d j : ℕ) → i + d ≡ j → length (put-all s plane k sides t n p i) ≤ length (put-all s plane k sides t n p j)
+  put-all-more i zero j e = let f : i ≡ j = omega arith in rw f (omega arith)
+  put-all-more i (suc d) zero e = absurd (omega arith)
+  put-all-more i (suc d) (suc j) e = omega (arith, put-all-more i d j (omega arith), ap length (put-all-suc j), length-append (put-all s plane k sides t n p j) (put-one j))
+
+  -- at corner i: at, prev and g are what the loop has
+  module _ (i at prev : ℕ) (g : Signal) (a : at ≡ length (put-all s plane k sides t n p i)) (e : prev ≡ last-to sides t n p i) (f : g ≡ signal-is (said-at sides n i)) where
+    put-same : put-corner s plane k (signal-of g) prev (corner-at t i) ≡ put-one i
+    put-same = let u = signal-from (said-at sides n i) f in λ j. put-corner s plane k (u j) (e j) (corner-at t i)
+
+    -- there is room for what corner i puts out
+    pub step-room : i < n → length (put-all s plane k sides t n p n) ≤ 134 → at + length (put-corner s plane k (signal-of g) prev (corner-at t i)) ≤ 134
+    step-room l h = omega (
+      arith,
+      ap length put-same,
+      put-all-more (suc i) (n - suc i) n (omega arith),
+      ap length (put-all-suc i),
+      length-append (put-all s plane k sides t n p i) (put-one i),
+    )
+
+    -- and then the first i + 1 corners are put out
+    module _ (out out′ : List ℤ) (r : Place) (q : Puts out out′ at (put-corner s plane k (signal-of g) prev (corner-at t i)) (put-last (signal-of g) prev (corner-at t i)) r) where
+      counted : at + length (put-corner s plane k (signal-of g) prev (corner-at t i)) ≡ length (put-all s plane k sides t n p (suc i))
+      counted = omega (arith, ap length put-same, ap length (put-all-suc i), length-append (put-all s plane k sides t n p i) (put-one i))
+
+      pub step-count : r .at ≡ length (put-all s plane k sides t n p (i + 1))
+      step-count = q .at-is ∙ counted ∙ ap (λ j. length (put-all s plane k sides t n p j)) (sym (add-one i))
+
+      pub step-read : read out at ≡ put-all s plane k sides t n p i → read out′ (r .at) ≡ put-all s plane k sides t n p (i + 1)
+      step-read b = ap (read out′) (q .at-is) ∙ q .read-is ∙ (λ j. b j ++ put-same j) ∙ sym (put-all-suc i) ∙ ap (put-all s plane k sides t n p) (sym (add-one i))
+
+-- ---- one step, by its signal
+
+module _ (s : Plane) (plane : ℕ → Plane) (k prev : ℕ) (c : Corner) (g : Signal) where
+  abbrev what : List Corner
+  what = put-corner s plane k (signal-of g) prev c
+
+  abbrev last : ℕ
+  last = put-last (signal-of g) prev c
+
+  pub step-nothing : g ≡ Nothing → (out : List ℤ) (at : ℕ) → Puts out out at what last (record { at = at; prev = prev })
+  unfolding signal-of
+  step-nothing e out at = rw e (puts-none out at prev)
+
+  module _ (e : g ≡ B) where
+    pub room-keep : (at n : ℕ) → 5 * (at + length what) ≤ n → 5 * at + 5 ≤ n
+    unfolding signal-of
+    room-keep at n h = let l : 5 * (at + 1) ≤ n = rw e at h in omega arith
+
+    pub step-keep : {out out′ : List ℤ} {at : ℕ} {r : Place} → Puts out out′ at (c ∷ []) (index c) r → Puts out out′ at what last r
+    unfolding signal-of
+    step-keep h = rw e h
+
+  module _ (e : g ≡ HB) where
+    pub room-pair : (at n : ℕ) → 5 * (at + length what) ≤ n → 5 * at + 10 ≤ n
+    unfolding signal-of
+    room-pair at n h = let l : 5 * (at + 2) ≤ n = rw e at h in omega arith
+
+    pub step-pair : {out out′ : List ℤ} {at : ℕ} {r : Place} (b : ℕ) → b ≡ index c → Puts out out′ at (corner k (meet s (plane prev) (plane k)) ∷ corner b (meet s (plane k) (plane b)) ∷ []) b r → Puts out out′ at what last r
+    unfolding signal-of
+    step-pair b f h = rw (e, ← f) h
+
+-- ---- the start
+
+abbrev all-small : List ℕ → Bool
+all-small [] = true
+all-small (x ∷ xs) = ltb x 6 and all-small xs
+
+small : (xs : List ℕ) → T (all-small xs) → (i : ℕ) → i < 6 → getD xs i 0 < 6
+small [] t i l = omega arith
+small (x ∷ xs) t zero l = ltb→lt x 6 (and-split (ltb x 6) (all-small xs) t .0)
+small (x ∷ xs) t (suc i) l = small xs (and-split (ltb x 6) (all-small xs) t .1) i (omega arith)
+
+-- an entry of the table, as one of the four
+pub start-entry : (w : scope.Way) (i : ℕ) → i < 4 → getD (six w) i 0 ≡ getD (starts w) i 0
+unfolding starts
+start-entry w i l = sym (getD-take 4 (six w) i 0 l)
+
+pub start-small : (w : scope.Way) (i : ℕ) → i < 6 → getD (six w) i 0 < 6
+unfolding six
+start-small w i l = go w i l
+  where
+    go : (w : scope.Way) (i : ℕ) → i < 6 → getD (six w) i 0 < 6
+    go scope.along-x i l = small (six scope.along-x) tt i l
+    go scope.against-x i l = small (six scope.against-x) tt i l
+    go scope.along-y i l = small (six scope.along-y) tt i l
+    go scope.against-y i l = small (six scope.against-y) tt i l
+    go scope.along-z i l = small (six scope.along-z) tt i l
+    go scope.against-z i l = small (six scope.against-z) tt i l
+
+module _ (s : Plane) (plane : ℕ → Plane) (w : scope.Way) where
+  starts-length : length (starts w) ≡ 4
+  unfolding starts six
+  starts-length = go w
+    where
+      go : (w : scope.Way) → length (take 4 (six w)) ≡ 4
+      go scope.along-x = refl
+      go scope.against-x = refl
+      go scope.along-y = refl
+      go scope.against-y = refl
+      go scope.along-z = refl
+      go scope.against-z = refl
+
+  -- the corner i of the start
+  pub begin-more : (u u′ : List ℤ) (i p q : ℕ) (P Q : Plane) → i < 4 → read u i ≡ take i (corners s plane (starts w)) → p ≡ getD (starts w) (prior 4 i) 0 → q ≡ getD (starts w) i 0
+      → P ≡ plane p → Q ≡ plane q → read u′ (suc i) ≡ read u i ++ corner q (meet s P Q) ∷ [] → read u′ (i + 1) ≡ take (i + 1) (corners s plane (starts w))
+  begin-more u u′ i p q P Q l h a b f g e =
+      let cs = corners s plane (starts w) in
+      let d = corner 0 s in
+      let m : length cs ≡ 4 = corners-length s plane (starts w) ∙ starts-length in
+      let v = corners-at s plane d 0 (starts w) i (omega (arith, starts-length)) in
+      let n = ap (λ m. getD (starts w) (prior m i) 0) starts-length in
+      let x : corner q (meet s P Q) ≡ getD cs i d =
+      (λ j. corner (b j) (meet s ((f ∙ ap plane (a ∙ sym n)) j) ((g ∙ ap plane b) j))) ∙ sym v in
+      ap (read u′) (add-one i) ∙ e ∙ (λ j. h j ++ x j ∷ []) ∙ sym (take-suc cs i d (omega arith)) ∙ ap (λ j. take j cs) (sym (add-one i))
+
+  pub begin-all : (u : List ℤ) (i : ℕ) → i ≤ 4 → 4 ≤ i → read u i ≡ take i (corners s plane (starts w)) → read u 4 ≡ corners s plane (starts w)
+  begin-all u i l b h =
+      let e : i ≡ 4 = omega arith in
+      let m : length (corners s plane (starts w)) ≡ 4 = corners-length s plane (starts w) ∙ starts-length in
+      ap (read u) (sym e) ∙ h ∙ take-all i (corners s plane (starts w)) (omega arith)

@@ -1,0 +1,5 @@
+pub mod Values
+pub mod Tables
+pub mod Asked
+pub mod Promises
+pub mod Follows

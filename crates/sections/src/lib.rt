@@ -1,0 +1,229 @@
+// The section of a region by a plane, as document 01's "Section of a region by a plane" has it.
+// A polygon stands in a table, five numbers a corner: the index of the corner's bound, and the vertex x, y, z, w at which the bound's edge
+// starts. An index below 6 is a side of the box, x-, x+, y-, y+, z-, z+; the half-space of row i has the index 6 + i.
+mod clipping;
+mod codes;
+mod start;
+mod table;
+
+ghost use mathlib.Core.Path.{_≡_};
+ghost use mathlib.Core.List.{_∷_, _++_, map};
+ghost use Prim.Native.Nat.{_+_, _*_, _≤_};
+ghost use lib.IntN.{pos};
+ghost use lib.ListN.{length, replicate};
+ghost use lib.Seq.{sets};
+ghost use Rattle.scope.specs.Section.{way, rest, section as the-section};
+ghost use Rattle.scope.specs.Planes.{half-fault};
+ghost use Rattle.scope.specs.Answers.{no-fault, no-faults, flat-planes};
+ghost use Rattle.planes.specs.Values.{plane};
+ghost use Rattle.sections.specs.Values.{lawful-is, witness-of};
+ghost use Rattle.sections.specs.Tables.{look, indices, rows-to, rows-down};
+ghost use Rattle.sections.specs.Asked.{Polygon, ClipsIn, BoundedIn, WriteIn};
+ghost use Rattle.sections.specs.Promises.{SectionTold, Drawn, CutIn};
+use clipping::clip_on;
+use planes::MadePlane;
+use planes::Meeting;
+use planes::Plane;
+use start::opened;
+use table::added;
+use table::clear;
+use table::index_at;
+use table::row;
+use table::write_row;
+
+// ---- the kinds, and the answers
+
+// How many bounds the section has; Nothing; or the number of the refusal.
+pub enum Sectioned {
+    Polygon(usize),
+    Nothing,
+    Refused(u8),
+}
+
+// A point on the plane and in the region, or Nothing.
+pub enum Witnessed {
+    At(Meeting),
+    Nothing,
+}
+
+// What a bound puts out: nothing, the bound, or the clipping half-space and the bound.
+pub enum Signal {
+    Nothing,
+    B,
+    HB,
+}
+
+// Where the next corner is put out, and the index put out last.
+pub struct Place {
+    pub at: usize,
+    pub prev: usize,
+}
+
+// What a clip leaves: the polygon as it was, a polygon of so many corners in the second table, or nothing.
+pub enum Clipped {
+    Same,
+    Cut(usize),
+    Gone,
+}
+
+// Whether planes are in range with normals that are not zero.
+pub enum Lawful {
+    Yes,
+    No,
+}
+
+// The length stated for a work table.
+pub const WORK: usize = 4096;
+
+// Half-spaces of a section, and rows of its polygon: one for each half-space and each side of the box, and one more.
+pub const MOST_HALVES: usize = 128;
+
+// ---- the half-spaces of a table, in order
+
+// Whether a half-space is in range with a normal that is not zero.
+fn lawful_half(h: Plane) -> Lawful
+    ensures { λ r. ⌜ r ≡ lawful-is (no-fault (half-fault (plane h))) ⌝ }
+{
+    let MadePlane::Made(_) = Plane::half_space(h.a, h.b, h.c, h.d) else {
+        return Lawful::No;
+    };
+    Lawful::Yes
+}
+
+// Whether the plane and each of the half-spaces are in range with normals that are not zero.
+fn all_lawful(s: Plane, halves: &[i64], rows: usize) -> Lawful
+    requires { ⌜ rows * 4 ≤ length (now halves) ⌝ }
+    ensures { λ r. ⌜ r ≡ lawful-is (no-faults (plane s ∷ rows-to (now (halves .entry)) 4 rows)) ⌝ }
+{
+    let Lawful::Yes = lawful_half(s) else {
+        return Lawful::No;
+    };
+    for i in 0..rows {
+        let Lawful::Yes = lawful_half(row(halves, 4, i)) else {
+            return Lawful::No;
+        };
+    }
+    Lawful::Yes
+}
+
+// Clips the polygon of n corners by the half-spaces in order. How many corners it has then; none are Nothing.
+fn clip_all(
+    s: Plane,
+    halves: &[i64],
+    rows: usize,
+    t: &mut [i64],
+    n: usize,
+    out: &mut [i64],
+) -> usize
+    requires { ⌜ ClipsIn (plane s) (now halves) 4 rows (now t) n (now out) ⌝ }
+    ensures { λ r. ⌜ Polygon (plane s) (look (now (halves .entry)) 4) (6 + rows) (rest (way (plane s)) ++ rows-to (now (halves .entry)) 4 rows) (now (t .exit)) r ⌝ }
+{
+    let mut m = n;
+    for i in 0..rows {
+        m = clip_on(s, halves, 4, 6 + i, t, m, out);
+        if m == 0 {
+            return 0;
+        }
+    }
+    m
+}
+
+// The section's polygon in the table t: how many corners it has; none are Nothing.
+fn bounded(s: Plane, halves: &[i64], rows: usize, t: &mut [i64]) -> usize
+    requires { ⌜ BoundedIn (plane s) (now halves) rows (now t) ⌝ }
+    ensures { λ r. ⌜ Polygon (plane s) (look (now (halves .entry)) 4) (6 + rows) (rest (way (plane s)) ++ rows-to (now (halves .entry)) 4 rows) (now (t .exit)) r ⌝ }
+{
+    let mut other = [0i64; 675];
+    let n = opened(s, halves, 4, t, &mut other);
+    clip_all(s, halves, rows, t, n, &mut other)
+}
+
+// The planes of the n corners in t, a row each.
+fn write_bounds(halves: &[i64], t: &[i64], n: usize, bounds: &mut [i64])
+    requires { ⌜ WriteIn (now halves) (now t) n (now bounds) ⌝ }
+    ensures { λ _. ⌜ now (bounds .exit) ≡ sets (now (bounds .entry)) 0 (flat-planes (map (look (now (halves .entry)) 4) (indices (now (t .entry)) n))) ⌝ }
+{
+    for i in 0..n {
+        write_row(halves, index_at(t, i), bounds, i);
+    }
+}
+
+// The section, its bounds written into a table of zeros.
+fn drawn(s: Plane, halves: &[i64], bounds: &mut [i64], work: &mut [i64]) -> Sectioned
+    requires { ⌜ now bounds ≡ replicate (length (now bounds)) (pos 0) ⌝ }
+    ensures { λ r. ⌜ Drawn s (now (halves .entry)) (now (bounds .entry)) (now (bounds .exit)) (now (work .entry)) r ⌝ }
+{
+    if work.len() < WORK {
+        return Sectioned::Refused(8);
+    }
+    if halves.len() % 4 != 0 {
+        return Sectioned::Refused(2);
+    }
+    let rows = halves.len() / 4;
+    if MOST_HALVES < rows {
+        return Sectioned::Refused(3);
+    }
+    let Lawful::Yes = all_lawful(s, halves, rows) else {
+        return Sectioned::Refused(4);
+    };
+    let n = bounded(s, halves, rows, work);
+    if n == 0 {
+        return Sectioned::Nothing;
+    }
+    if bounds.len() / 4 < n {
+        return Sectioned::Refused(8);
+    }
+    write_bounds(halves, work, n, bounds);
+    Sectioned::Polygon(n)
+}
+
+// The section of the half-spaces by the plane s: its bounds, a row of four numbers each.
+// Refused with 8 if the work table is shorter than WORK, 2 if the half-spaces are not rows of four numbers, 3 over 128 of them, 4 if the
+// plane or a half-space is out of range or has a zero normal, and 8, after Nothing, if the table of bounds has too few rows.
+pub fn section(s: Plane, halves: &[i64], bounds: &mut [i64], work: &mut [i64]) -> Sectioned
+    ensures { λ r. ⌜ SectionTold s (now (halves .entry)) (now (bounds .entry)) (now (bounds .exit)) (now (work .entry)) (now (work .exit)) r ⌝ }
+{
+    clear(bounds);
+    let r = drawn(s, halves, bounds, work);
+    clear(work);
+    r
+}
+
+// ---- the half-spaces of a path, last first
+
+// Clips the polygon of n corners by the half-spaces of the first depth rows of a path, last first.
+fn clip_back(
+    s: Plane,
+    path: &[i64],
+    depth: usize,
+    t: &mut [i64],
+    n: usize,
+    out: &mut [i64],
+) -> usize
+    requires { ⌜ ClipsIn (plane s) (now path) 8 depth (now t) n (now out) ⌝ }
+    ensures { λ r. ⌜ Polygon (plane s) (look (now (path .entry)) 8) (6 + depth) (rest (way (plane s)) ++ rows-down (now (path .entry)) 8 depth) (now (t .exit)) r ⌝ }
+{
+    let mut m = n;
+    let mut left = depth;
+    while 0 < left {
+        left -= 1;
+        m = clip_on(s, path, 8, 6 + left, t, m, out);
+        if m == 0 {
+            return 0;
+        }
+    }
+    m
+}
+
+// Whether the plane s cuts the cell of a path: a point on it and in the cell, or Nothing.
+pub fn cut(s: Plane, path: &[i64], depth: usize, first: &mut [i64], second: &mut [i64]) -> Witnessed
+    requires { ⌜ CutIn (plane s) (now path) depth (now first) (now second) ⌝ }
+    ensures { λ r. ⌜ r ≡ witness-of (plane s) (the-section (plane s) (rows-down (now (path .entry)) 8 depth)) ⌝ }
+{
+    let n = opened(s, path, 8, first, second);
+    let m = clip_back(s, path, depth, first, n, second);
+    if m == 0 {
+        return Witnessed::Nothing;
+    }
+    Witnessed::At(added(first))
+}
