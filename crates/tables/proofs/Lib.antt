@@ -1,0 +1,10 @@
+pub mod Heads
+pub mod Sides
+pub mod Stacks
+pub mod Fill
+pub mod Turn
+pub mod Lent
+pub mod Stages
+pub mod Flats
+pub mod Walks
+pub mod Points

@@ -1,0 +1,4 @@
+pub mod Rows
+pub mod Work
+pub mod Promises
+pub mod Only
