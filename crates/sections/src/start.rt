@@ -22,42 +22,42 @@ use planes::size;
 // For each way, along x, against x, along y and so on: the indices of the four bounds, and then of the remaining axis's minus and plus
 // plane.
 const STARTS: [usize; 36] = [
-    4,
-    3,
-    5,
-    2,
-    0,
-    1,
-    2,
-    5,
-    3,
-    4,
-    0,
-    1,
-    0,
-    5,
-    1,
-    4,
-    2,
-    3,
-    4,
-    1,
-    5,
-    0,
-    2,
-    3,
-    2,
-    1,
-    3,
-    0,
-    4,
-    5,
-    0,
-    3,
-    1,
-    2,
-    4,
-    5,
+    4, // along x: z-
+    3, // along x: y+
+    5, // along x: z+
+    2, // along x: y-
+    0, // along x: x-
+    1, // along x: x+
+    2, // against x: y-
+    5, // against x: z+
+    3, // against x: y+
+    4, // against x: z-
+    0, // against x: x-
+    1, // against x: x+
+    0, // along y: x-
+    5, // along y: z+
+    1, // along y: x+
+    4, // along y: z-
+    2, // along y: y-
+    3, // along y: y+
+    4, // against y: z-
+    1, // against y: x+
+    5, // against y: z+
+    0, // against y: x-
+    2, // against y: y-
+    3, // against y: y+
+    2, // along z: y-
+    1, // along z: x+
+    3, // along z: y+
+    0, // along z: x-
+    4, // along z: z-
+    5, // along z: z+
+    0, // against z: x-
+    3, // against z: y+
+    1, // against z: x+
+    2, // against z: y-
+    4, // against z: z-
+    5, // against z: z+
 ];
 
 // An entry of the table of starts.
