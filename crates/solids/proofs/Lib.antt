@@ -1,0 +1,9 @@
+mod Lines
+mod Tables
+mod Planes
+mod Nodes
+mod Whole
+mod Told
+mod TextLines
+mod Fitted
+mod Glue

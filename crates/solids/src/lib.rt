@@ -1,0 +1,132 @@
+// Solids as text, as document 01's "Solids as frames" has it: a text is read into lent tables, and lent tables are written as a text.
+mod reading;
+mod writing;
+
+use frames::AfterEnd;
+use frames::Cursor;
+use reading::read_solid;
+use tables::Judgement;
+use tables::Solid;
+use tables::clear;
+use writing::put_solid;
+ghost use mathlib.Core.Path.{_≡_};
+ghost use Prim.Native.Nat.{_≤_, _<_};
+ghost use lib.IntN.{pos};
+ghost use lib.ListN.{length, replicate};
+ghost use Rattle.solids.specs.Reading.{Blank, rooms, IntoTold, ReadTold};
+ghost use Rattle.solids.specs.Lines.{FinishIn, Finished};
+ghost use Rattle.solids.specs.Writing.{Sound, FittedTold, WriteTold};
+
+// ---- the answers
+
+// The cursor after the lines that were read, and how many trees their rows are; or the number and the line that refuse the text.
+pub enum LinesRead {
+    At(Cursor, usize),
+    Refused(u8, usize),
+}
+
+// A solid, the cursor after it and the line that follows it; or the number and the line that refuse the text.
+pub enum SolidRead {
+    Read(Solid, Cursor, usize),
+    Refused(u8, usize),
+}
+
+// How many characters were written, or the number of the refusal.
+pub enum Written {
+    Text(usize),
+    Refused(u8),
+}
+
+// ---- tables of zeros
+
+// Makes each entry of a table of nodes zero.
+fn clear_nodes(t: &mut [u16])
+    ensures { λ _. ⌜ now (t .exit) ≡ replicate (length (now (t .entry))) 0 ⌝ }
+{
+    for i in 0..t.len() {
+        t[i] = 0;
+    }
+}
+
+// Makes each character of a text zero.
+fn clear_text(t: &mut [u8])
+    ensures { λ _. ⌜ now (t .exit) ≡ replicate (length (now (t .entry))) 0 ⌝ }
+{
+    for i in 0..t.len() {
+        t[i] = 0;
+    }
+}
+
+// ---- reading
+
+// A solid that was read, after which nothing may follow.
+fn finished(text: &[u8], r: SolidRead) -> Judgement
+    requires { ⌜ FinishIn (now text) r ⌝ }
+    ensures { λ j. ⌜ Finished (now (text .entry)) r j ⌝ }
+{
+    match r {
+        SolidRead::Refused(k, l) => Judgement::Refused(k, l),
+        SolidRead::Read(s, c, l) => match frames::after_end(text, c) {
+            AfterEnd::Fine => Judgement::Sound(s),
+            AfterEnd::Refused(k) => Judgement::Refused(k, l),
+        },
+    }
+}
+
+// The solid of the text, read into tables of zeros.
+fn read_into(text: &[u8], planes: &mut [i64], nodes: &mut [u16], work: &mut [i64]) -> Judgement
+    requires { ⌜ Blank (now planes) (now nodes) (now work) ⌝ }
+    ensures { λ r. ⌜ IntoTold (now (text .entry)) (rooms (now (planes .entry)) (now (nodes .entry))) (length (now (work .entry))) (now (planes .exit)) (now (nodes .exit)) r ⌝ }
+{
+    if work.len() < Solid::WORK {
+        return Judgement::Refused(8, 0);
+    }
+    if Solid::MOST_TEXT < text.len() {
+        return Judgement::Refused(3, 0);
+    }
+    let r = read_solid(text, Cursor { at: 0 }, 1, planes, nodes, work);
+    finished(text, r)
+}
+
+// The solid of the text, in the tables lent for it; or the number and the line of the first refusal, and tables of zeros.
+pub fn read(text: &[u8], planes: &mut [i64], nodes: &mut [u16], work: &mut [i64]) -> Judgement
+    ensures { λ r. ⌜ ReadTold (now (text .entry)) (now (planes .entry)) (now (planes .exit)) (now (nodes .entry)) (now (nodes .exit)) (now (work .entry)) (now (work .exit)) r ⌝ }
+{
+    clear(planes);
+    clear_nodes(nodes);
+    clear(work);
+    let r = read_into(text, planes, nodes, work);
+    clear(work);
+    let Judgement::Sound(s) = r else {
+        clear(planes);
+        clear_nodes(nodes);
+        return r;
+    };
+    Judgement::Sound(s)
+}
+
+// ---- writing
+
+// The text of the solid of lent tables, written into characters that are zero.
+fn put_text(planes: &[i64], nodes: &[u16], s: Solid, text: &mut [u8]) -> Written
+    requires { ⌜ Sound (now planes) (now nodes) s × (now text ≡ replicate (length (now text)) 0) ⌝ }
+    ensures { λ r. ⌜ FittedTold (now (planes .entry)) (now (nodes .entry)) s (now (text .entry)) (now (text .exit)) r ⌝ }
+{
+    let size = 16 + 23 * s.planes + 13 * s.nodes;
+    if text.len() < size {
+        return Written::Refused(8);
+    }
+    put_solid(text, planes, nodes, s);
+    Written::Text(size)
+}
+
+// The text of the solid of lent tables; or the number of the first refusal, and a text of zeros.
+pub fn write(planes: &[i64], nodes: &[u16], root: u16, text: &mut [u8], work: &mut [i64]) -> Written
+    ensures { λ r. ⌜ WriteTold (now (planes .entry)) (now (nodes .entry)) root (now (text .entry)) (now (text .exit)) (now (work .entry)) (now (work .exit)) r ⌝ }
+{
+    clear_text(text);
+    match tables::judge(planes, nodes, root, work) {
+        Judgement::Refused(k, _) => Written::Refused(k),
+        Judgement::Sound(s) => put_text(planes, nodes, s, text),
+    }
+}
