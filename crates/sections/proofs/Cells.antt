@@ -1,20 +1,18 @@
 -- What five stores leave in a table of corners, and four in a table of rows.
-use mathlib.Core.Path.{_≡_, refl, sym, ap, _∙_}
-use mathlib.Core.Logic.{_≢_}
+use mathlib.Core.Path.{_≡_, refl, ap, _∙_}
 use mathlib.Core.Bool.{true}
-use mathlib.Core.List.{List, [], _∷_, _++_, append-nil, append-assoc, map}
+use mathlib.Core.List.{List, [], _∷_, _++_}
 use Prim.Native.Nat.{ℕ, zero, suc, _+_, _-_, _*_, _≤_, _<_}
 use native.Mathlib.Nat.{add-zero}
-use native.Mathlib.Numerals.{add-one}
 use native.Mathlib.Omega.{arith}
 use lib.IntN.{ℤ, pos, negsuc}
-use lib.ListN.{length, getD, set, drop, replicate, length-append, length-set, drop-of-length-le}
-use lib.Seq.{sets, length-sets, getD-set-same, getD-set-other}
+use lib.ListN.{length, getD, set, length-append, length-set}
+use lib.Seq.{sets, getD-set-same, getD-set-other}
 use Rattle.scope.specs.Planes.{Plane, in-range}
 use Rattle.scope.specs.Cells.{x-}
-use Rattle.theory.specs.Section.{Corner, corner, index, vertex}
+use Rattle.theory.specs.Section.{corner}
 use Rattle.planes.specs.Values.{quad}
-use Rattle.sections.specs.Tables.{four-at, row, box-or, look, number, corner-at, read, indices}
+use Rattle.sections.specs.Tables.{four-at, row, box-or, look, number, corner-at, read}
 
 -- ---- the planes of indices
 
@@ -101,21 +99,6 @@ read-put t i k v l =
     let z = getD-sets-at vs t (5 * i) 3 (5 * i + 3) (omega arith) (omega arith) (omega arith) in
     let w = getD-sets-at vs t (5 * i) 4 (5 * i + 4) (omega arith) (omega arith) (omega arith) in
     λ j. a j ++ corner (number (n j)) (quad (x j) (y j) (z j) (w j)) ∷ []
-
--- ---- a loop that fills a list from the front, one store a turn
-
-fill-suc : (n : ℕ) (v : ℤ) (d : List ℤ) → n < length d → set (replicate n v ++ drop n d) n v ≡ replicate (suc n) v ++ drop (suc n) d
-fill-suc n v [] l = absurd (omega arith)
-fill-suc zero v (x ∷ d) l = refl
-fill-suc (suc n) v (x ∷ d) l = ap (λ (t : List ℤ). v ∷ t) (fill-suc n v d (omega arith))
-
-pub fill-more : (n : ℕ) (v : ℤ) (d e : List ℤ) → n < length d → e ≡ replicate n v ++ drop n d → set e n v ≡ replicate (n + 1) v ++ drop (n + 1) d
-fill-more n v d e l h = rw (h, add-one) (fill-suc n v d l)
-
-pub fill-all : (n : ℕ) (v : ℤ) (d e : List ℤ) → length d ≤ n → n ≤ length d → e ≡ replicate n v ++ drop n d → e ≡ replicate (length d) v
-fill-all n v d e l k h =
-    let i : n ≡ length d = omega arith in
-    h ∙ ap (λ (t : List ℤ). replicate n v ++ t) (drop-of-length-le d l) ∙ append-nil (replicate n v) ∙ ap (λ (m : ℕ). replicate m v) i
 
 -- ---- copies
 

@@ -26,7 +26,6 @@ use planes::Meeting;
 use planes::Plane;
 use start::opened;
 use table::added;
-use table::clear;
 use table::index_at;
 use table::row;
 use table::write_row;
@@ -71,9 +70,6 @@ pub enum Lawful {
     Yes,
     No,
 }
-
-// The length stated for a work table.
-pub const WORK: usize = 4096;
 
 // Half-spaces of a section, and rows of its polygon: one for each half-space and each side of the box, and one more.
 pub const MOST_HALVES: usize = 128;
@@ -153,7 +149,7 @@ fn drawn(s: Plane, halves: &[i64], bounds: &mut [i64], work: &mut [i64]) -> Sect
     requires { ⌜ now bounds ≡ replicate (length (now bounds)) (pos 0) ⌝ }
     ensures { λ r. ⌜ Drawn s (now (halves .entry)) (now (bounds .entry)) (now (bounds .exit)) (now (work .entry)) r ⌝ }
 {
-    if work.len() < WORK {
+    if work.len() < zeros::WORK {
         return Sectioned::Refused(8);
     }
     if halves.len() % 4 != 0 {
@@ -178,14 +174,14 @@ fn drawn(s: Plane, halves: &[i64], bounds: &mut [i64], work: &mut [i64]) -> Sect
 }
 
 // The section of the half-spaces by the plane s: its bounds, a row of four numbers each.
-// Refused with 8 if the work table is shorter than WORK, 2 if the half-spaces are not rows of four numbers, 3 over 128 of them, 4 if the
+// Refused with 8 if the work table is shorter than zeros::WORK, 2 if the half-spaces are not rows of four numbers, 3 over 128 of them, 4 if the
 // plane or a half-space is out of range or has a zero normal, and 8, after Nothing, if the table of bounds has too few rows.
 pub fn section(s: Plane, halves: &[i64], bounds: &mut [i64], work: &mut [i64]) -> Sectioned
     ensures { λ r. ⌜ SectionTold s (now (halves .entry)) (now (bounds .entry)) (now (bounds .exit)) (now (work .entry)) (now (work .exit)) r ⌝ }
 {
-    clear(bounds);
+    zeros::clear(bounds);
     let r = drawn(s, halves, bounds, work);
-    clear(work);
+    zeros::clear(work);
     r
 }
 

@@ -1,9 +1,9 @@
-// Tables: the planes of a row and of an index, the corners of a polygon, a table cleared.
+// Tables: the planes of a row and of an index, the corners of a polygon.
 ghost use mathlib.Core.Path.{_≡_};
 ghost use mathlib.Core.List.{[], _∷_};
 ghost use Prim.Native.Nat.{ℕ, _+_, _*_, _<_, _≤_};
 ghost use lib.IntN.{pos};
-ghost use lib.ListN.{length, getD, replicate};
+ghost use lib.ListN.{length, getD};
 ghost use lib.Seq.{sets};
 ghost use Rattle.scope.specs.Cells.{x-};
 ghost use Rattle.scope.specs.Answers.{flat-planes};
@@ -146,15 +146,6 @@ pub fn copy(from: &[i64], to: &mut [i64], n: usize)
     for i in 0..n {
         let x = from[i];
         to[i] = x;
-    }
-}
-
-// Zeros throughout.
-pub fn clear(t: &mut [i64])
-    ensures { λ _. ⌜ now (t .exit) ≡ replicate (length (now (t .entry))) (pos 0) ⌝ }
-{
-    for i in 0..t.len() {
-        t[i] = 0;
     }
 }
 

@@ -4,7 +4,7 @@
 --     write-refused, write-sound     the answer, and what is left in the text
 use mathlib.Core.Path.{_≡_, refl, sym, ap, subst, _∙_}
 use mathlib.Core.Bool.{Bool, true, false, cond}
-use mathlib.Core.List.{List, [], _∷_, _++_}
+use mathlib.Core.List.{List, []}
 use Prim.Native.Nat.{ℕ, _+_, _-_, _*_, _/_, _≤_, _<_}
 use native.Mathlib.Omega.{arith}
 use borrow.Author.Tests.{le-leb, lt-leb}
@@ -17,20 +17,19 @@ use Rattle.scope.specs.Limits.{stated}
 use Rattle.scope.specs.Solids.{Tables, tables}
 use Rattle.scope.specs.Text.{head, plane, node-row, written, text}
 use Rattle.scope.specs.Judging.{Verdict, accepted, refusal, judge-lent}
-use Rattle.scope.specs.Answers.{Answer, given, refused, solid-then, filled, left, write-answer, flat-planes, flat-nodes}
+use Rattle.scope.specs.Answers.{given, refused, solid-then, filled, left, write-answer}
 use Rattle.theory.specs.Text.Filled.{filled-more, planes-count, nodes-count}
 use Rattle.theory.specs.Text.Frames.{Fits}
 use Rattle.theory.specs.Text.Lent.{lent, Flat, lent-taken}
 use Rattle.theory.specs.Text.Sizes.{Writable, writable, solid-length}
 use Rattle.theory.specs.Text.Trees.{LawfulTables}
-use Rattle.frames.specs.Promises.{Wrote}
 use Rattle.tables.specs.Rows.{plane-at, entry-at, planes-to, entries-to}
 use Rattle.tables.specs.Promises.{judgement, judge-answer, counts}
 use Rattle.tables.specs.declared.Solid.{Solid}
 use Rattle.tables.specs.declared.Judgement as Judgement
 use Rattle.solids.specs.declared.Written as Written
 use Rattle.solids.specs.Reading.{solid-of}
-use Rattle.solids.specs.Writing.{PlanesFit, NodesFit, Writes, tables-in, fitted, wrote, itself, Sound, FittedTold, WriteTold}
+use Rattle.solids.specs.Writing.{Writes, tables-in, fitted, wrote, itself, Sound, FittedTold, WriteTold}
 use Rattle.solids.proofs.TextLines.{planes-all, entries-all, plane-each, node-each}
 use Rattle.solids.proofs.Tables.{zeros-held}
 

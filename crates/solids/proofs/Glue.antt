@@ -3,8 +3,8 @@
 --     node-refused, node-pushed-line     a node's line
 --     end-refused, end-judged-line       the end's line
 --     finished-refused, finished-end, finished-more   what follows the end
-use mathlib.Core.Path.{_≡_, refl, sym, ap, subst, _∙_}
-use mathlib.Core.List.{List, []}
+use mathlib.Core.Path.{_≡_, sym, subst}
+use mathlib.Core.List.{List}
 use Prim.Native.Nat.{ℕ}
 use lib.Dec.{leb}
 use lib.IntN.{ℤ}

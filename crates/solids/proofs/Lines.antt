@@ -1,19 +1,15 @@
 -- One line more of `read-solid`: it goes on, it ends, or it is refused.
 --     line-goes, line-ends, line-refused   by what `step` says of the line
---     not-there                            by a line that is missing, malformed or not due
---     head-step, plane-step, end-step                 what `step` says, from the code's answers
+--     head-step, plane-step, end-step      what `step` says, from the code's answers
 use mathlib.Core.Path.{_≡_, refl, ap, _∙_}
 use mathlib.Core.Bool.{Bool, true, false}
-use mathlib.Core.List.{List, [], _∷_}
+use mathlib.Core.List.{List, _∷_}
 use mathlib.Core.Option.{Option, none, some}
 use Prim.Native.Nat.{ℕ, suc}
 use Rattle.scope.specs.Planes.{Fault}
-use Rattle.scope.specs.Solids.{Tables, tables}
+use Rattle.scope.specs.Solids.{Tables}
 use Rattle.scope.specs.Text.{Frame}
 use Rattle.scope.specs.Judging.{Rooms, State, fresh, Step, go, done, stop, head-by, plane-by, end-by, step, read, refused, next, read-solid}
-use Rattle.theory.specs.Text.Rules.{Due, Why, stops}
-use Rattle.theory.specs.Text.Rules as rules
-use Rattle.frames.specs.Promises.{Refuses, missing, malformed, not-due}
 use Rattle.tables.specs.declared.Judged as Judged
 use Rattle.tables.specs.Promises.{judged, end-judged}
 
@@ -32,13 +28,6 @@ module _ (s : Rooms) (c : State) {f : Frame} {fs gs : List Frame} (l : ℕ) (e :
 
   pub line-refused : {k : ℕ} → step s c f ≡ stop k → read-solid s c l fs ≡ refused k l
   line-refused h = by-step h
-
--- a line that is missing, malformed or not due
-pub not-there : (s : Rooms) (c : State) (l : ℕ) {wanted : Frame → Type 0} {fs : List Frame} {k : ℕ} → ((f : Frame) → Due c f → wanted f) → Refuses wanted fs k → read-solid s c l fs ≡ refused k l
-unfolding read-solid
-not-there s c l d (missing e) = ap (read-solid s c l) e
-not-there s c l d (malformed e) = line-refused s c l e (stops rules.malformed)
-not-there s c l d (not-due {f = f} e b n) = line-refused s c l e (stops (rules.not-due (λ h. n (d f h)) b))
 
 -- ---- from the code's answers
 

@@ -17,21 +17,20 @@ use lib.Seq.{sets}
 use Rattle.whole.specs.Tests.{_or_, differ}
 use Rattle.scope.specs.Planes.{Plane, is-zero}
 use Rattle.scope.specs.Solids.{Entry, entry}
-use Rattle.scope.specs.Text.{Frame, node-row, frames}
-use Rattle.scope.specs.Judging.{Rooms, Sub, State, busy, go, stop, row-by, add-row, uses, step, refused, read-solid}
+use Rattle.scope.specs.Text.{node-row, frames}
+use Rattle.scope.specs.Judging.{Rooms, Sub, busy, stop, row-by, add-row, uses, step, refused, read-solid}
 use Rattle.scope.specs.Answers.{flat-nodes}
 use Rattle.theory.specs.Text.Counts.{sizes, sizes-of, size-row, row-size}
-use Rattle.theory.specs.Text.Rules.{Due, due-node}
 use Rattle.theory.specs.Text.Uses.{uses-end}
 use Rattle.frames.specs.declared.Cursor.{Cursor}
-use Rattle.frames.specs.Promises.{NodeRead, IsNode, is-node}
+use Rattle.frames.specs.Follows.{node-refuses}
+use Rattle.frames.specs.Promises.{NodeRead}
 use Rattle.tables.specs.Rows.{entry-at}
 use Rattle.tables.specs.Work.{stack, total, marked}
-use Rattle.tables.specs.Promises.{Stands, Falls}
 use Rattle.solids.specs.declared.LinesRead as LinesRead
 use Rattle.solids.specs.Lines.{NodeLine, node-taken, no-node, bad-node}
 use Rattle.solids.specs.Reading.{HoldsNodes, NodesOver}
-use Rattle.solids.proofs.Lines.{line-goes, line-refused, not-there}
+use Rattle.solids.proofs.Lines.{line-goes, line-refused}
 use Rattle.solids.proofs.Tables.{zeros-held, nodes-more, node-here}
 
 pub no-marks : (w : List ℤ) → 1064 ≤ length w → w ≡ replicate (length w) (pos 0) → (k : ℕ) → k < 64 → marked w k ≡ uses k []
@@ -61,9 +60,6 @@ nodes-start ps t from l m ns w z marks = record {
 
 abbrev entry-number : Entry → ℕ
 entry-number (entry p f b) = p
-
-only-node : {m r : ℕ} {q : Option Plane} {ps : List Plane} {es : List Entry} {st : List Sub} (f : Frame) → Due (busy 0 (suc m) r q ps es st) f → IsNode f
-only-node _ due-node = is-node
 
 -- ---- trees from their sizes
 
@@ -124,7 +120,7 @@ module _ {ps : List Plane} {t : List ℕ} {from l m : ℕ} {ns : List ℕ} {w : 
       line = omega arith
 
   pub nodes-refused : {ns′ : List ℕ} {w′ : List ℤ} {k j : ℕ} → NodeLine t at n i ns ns′ w w′ depth (l + i) (LinesRead.the-variants.Refused k j) → (s : Rooms) (r : ℕ) (p : Option Plane) → read-solid s (busy 0 m r p ps [] []) l (frames (drop from t)) ≡ refused k j
-  nodes-refused (no-node h) s r p = before s r (m - suc i) p (omega (arith, more)) ∙ not-there s _ (l + i) only-node h
+  nodes-refused (no-node h) s r p = before s r (m - suc i) p (omega (arith, more)) ∙ node-refuses s (l + i) (frames (drop at t)) r p ps (q .entries) (q .trees) (m - suc i) h
   nodes-refused (bad-node a h) s r p =
       before s r (m - suc i) p (omega (arith, more))
       ∙ line-refused s _ (l + i) (a .reads .first) (stepped a (unsized (add-row ps (length (q .entries)) (q .trees) (is a)) (row a (h .row))) s r (m - suc i) p ∙ ap stop (sym (h .number)))

@@ -4,26 +4,26 @@
 --     planes-refused    a line is refused
 use mathlib.Core.Path.{_≡_, refl, sym, ap, subst, _∙_}
 use mathlib.Core.List.{List, [], _∷_, _++_}
-use mathlib.Core.Option.{Option, none, some}
+use mathlib.Core.Option.{none, some}
 use Prim.Native.Nat.{ℕ, suc, _+_, _-_, _*_, _≤_, _<_}
 use native.Mathlib.Omega.{arith}
 use lib.IntN.{ℤ, pos}
 use lib.ListN.{length, drop, replicate, length-append}
 use lib.Seq.{sets}
-use Rattle.scope.specs.Planes.{Plane, fault}
-use Rattle.scope.specs.Text.{Frame, plane, frames}
+use Rattle.scope.specs.Planes.{fault}
+use Rattle.scope.specs.Text.{plane, frames}
 use Rattle.scope.specs.Judging.{Rooms, State, fresh, busy, go, follows, plane-by, step, refused, read-solid}
 use Rattle.scope.specs.Answers.{flat-planes}
-use Rattle.theory.specs.Text.Rules.{Due, due-plane}
 use Rattle.frames.specs.declared.Cursor.{Cursor}
-use Rattle.frames.specs.Promises.{PlaneRead, IsPlane, is-plane}
+use Rattle.frames.specs.Follows.{plane-refuses}
+use Rattle.frames.specs.Promises.{PlaneRead}
 use Rattle.tables.specs.declared.Judged as Judged
 use Rattle.tables.specs.Rows.{plane-at, last-before}
 use Rattle.tables.specs.Promises.{judged, plane-judged}
 use Rattle.solids.specs.declared.LinesRead as LinesRead
 use Rattle.solids.specs.Lines.{PlaneLine, plane-taken, no-plane, bad-plane}
 use Rattle.solids.specs.Reading.{HoldsPlanes, PlanesSoFar}
-use Rattle.solids.proofs.Lines.{line-goes, line-refused, not-there, as-step, plane-step}
+use Rattle.solids.proofs.Lines.{line-goes, line-refused, as-step, plane-step}
 use Rattle.solids.proofs.Tables.{zeros-held, planes-more, plane-here, last-kept}
 
 pub planes-start : (t : List ℕ) (from l n : ℕ) (xs : List ℤ) → from ≤ length t → xs ≡ replicate (length xs) (pos 0) → PlanesSoFar t from l n xs 0 from
@@ -41,9 +41,6 @@ planes-start t from l n xs h z = record {
 
     line : l ≡ l + 0
     line = omega arith
-
-only-plane : {n m r : ℕ} {q : Option Plane} {ps : List Plane} (f : Frame) → Due (busy (suc n) m r q ps [] []) f → IsPlane f
-only-plane _ due-plane = is-plane
 
 module _ {t : List ℕ} {from l n : ℕ} {xs : List ℤ} {i at : ℕ} (q : PlanesSoFar t from l n xs i at) (more : i < n) (room : 4 * i + 4 ≤ length xs) where
   -- what is left to judge before the line
@@ -83,5 +80,5 @@ module _ {t : List ℕ} {from l n : ℕ} {xs : List ℤ} {i at : ℕ} (q : Plane
       line = omega arith
 
   pub planes-refused : {xs′ : List ℤ} {k j : ℕ} → PlaneLine t at i xs xs′ (l + i) (LinesRead.the-variants.Refused k j) → (s : Rooms) (m r : ℕ) → read-solid s (busy n m r none [] [] []) l (frames (drop from t)) ≡ refused k j
-  planes-refused (no-plane h) s m r = before s m r (n - suc i) (omega (arith, more)) ∙ not-there s _ (l + i) only-plane h
+  planes-refused (no-plane h) s m r = before s m r (n - suc i) (omega (arith, more)) ∙ plane-refuses s (l + i) (frames (drop at t)) r (last-before xs i) (q .planes) [] [] (n - suc i) m h
   planes-refused (bad-plane a e) s m r = before s m r (n - suc i) (omega (arith, more)) ∙ line-refused s _ (l + i) (a .reads .first) (stepped a e s m r (n - suc i))

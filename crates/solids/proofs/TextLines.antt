@@ -14,7 +14,7 @@ use lib.ListN.{length, getD, set, take, length-append}
 use lib.Seq.{sets, take-suc, take-length}
 use Rattle.whole.specs.Lists.{Each}
 use Rattle.scope.specs.Planes.{Plane}
-use Rattle.scope.specs.Solids.{Entry, entry, Tables, tables}
+use Rattle.scope.specs.Solids.{Entry, entry, tables}
 use Rattle.scope.specs.Text.{Frame, head, plane, node-row, end, line, bytes, written, plane-frames, node-frames, solid-frames, text}
 use Rattle.scope.specs.Answers.{flat-planes, flat-nodes}
 use Rattle.theory.specs.Section.Corners.{each-at}

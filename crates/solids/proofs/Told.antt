@@ -5,7 +5,7 @@
 --     read-sound, read-refused, told-sound, told-refused   the answer, and what is left in the tables
 use mathlib.Core.Path.{_≡_, refl, sym, ap, subst, _∙_}
 use mathlib.Core.Bool.{Bool, true, false, cond}
-use mathlib.Core.List.{List, [], _∷_}
+use mathlib.Core.List.{List, []}
 use mathlib.Core.Option.{none}
 use Prim.Native.Nat.{ℕ, suc, _+_, _-_, _/_, _≤_, _<_}
 use native.Mathlib.Omega.{arith}
@@ -14,13 +14,12 @@ use lib.IntN.{ℤ, pos}
 use lib.ListN.{length, drop, replicate}
 use borrow.Author.Tests.{le-leb, lt-leb}
 use Rattle.scope.specs.Limits.{stated, most-text}
-use Rattle.scope.specs.Solids.{Tables, tables}
+use Rattle.scope.specs.Solids.{tables}
 use Rattle.scope.specs.Text.{head, frames}
-use Rattle.scope.specs.Judging.{Rooms, fresh, busy, judge-head, read, refused, read-solid, Verdict, accepted, refusal, finish, judge}
-use Rattle.scope.specs.Answers.{Answer, given, solid-then, plane-numbers, node-numbers, filled, left, with-work, read-answer}
+use Rattle.scope.specs.Judging.{Rooms, fresh, busy, judge-head, read, refused, read-solid, refusal, finish, judge}
+use Rattle.scope.specs.Answers.{given, solid-then, plane-numbers, node-numbers, filled, left, read-answer}
 use Rattle.scope.specs.Answers as answers
 use Rattle.frames.specs.Promises.{Reads, Follows}
-use Rattle.frames.specs.declared.Cursor.{Cursor}
 use Rattle.tables.specs.declared.Judged as Judged
 use Rattle.tables.specs.declared.Judgement as Judgement
 use Rattle.tables.specs.declared.Solid.{Solid}
@@ -28,7 +27,7 @@ use Rattle.tables.specs.Promises.{judged}
 use Rattle.solids.specs.declared.LinesRead as LinesRead
 use Rattle.solids.specs.declared.SolidRead as SolidRead
 use Rattle.solids.specs.Lines.{FinishIn, Finished, not-read, at-end, more}
-use Rattle.solids.specs.Reading.{RowsRead, RowsTold, whole-of, rooms, solid-of, WholeSolid, SolidTold, verdict, judgement, Into, IntoTold, ReadTold}
+use Rattle.solids.specs.Reading.{RowsRead, RowsTold, whole-of, rooms, WholeSolid, SolidTold, verdict, judgement, Into, IntoTold, ReadTold}
 use Rattle.solids.proofs.Whole.{head-read, finish-read, finish-more, finish-refused}
 
 -- ---- a solid

@@ -3,55 +3,37 @@
 --     head-missing, head-refused, head-read                 the head
 --     HeadTaken, head-taken                                 counts within the limits and the rows lent
 --     finish-read, finish-more                              what follows the end
-use mathlib.Core.Path.{_≡_, refl, sym, ap, _∙_}
+use mathlib.Core.Path.{_≡_, refl, ap, _∙_}
 use mathlib.Core.Bool.{Bool, true, false}
 use mathlib.Core.List.{List, [], _∷_}
 use mathlib.Core.Logic.{_≢_}
 use mathlib.Core.Option.{Option, none}
-use Prim.Native.Nat.{ℕ, zero, suc, _+_, _≤_, _<_}
+use Prim.Native.Nat.{ℕ, suc, _+_, _≤_}
 use native.Mathlib.Omega.{arith}
 use lib.Dec.{leb}
-use borrow.Author.Tests.{lt-leb, leb-true}
+use borrow.Author.Tests.{leb-true}
 use lib.IntN.{ℤ}
 use lib.ListN.{length, drop}
 use Rattle.whole.specs.Tests.{_and_, and-true, differ}
 use Rattle.scope.specs.Limits.{most-planes, most-nodes}
 use Rattle.scope.specs.Planes.{Plane}
-use Rattle.scope.specs.Solids.{Entry, Tables, tables}
+use Rattle.scope.specs.Solids.{Tables, tables}
 use Rattle.scope.specs.Text.{Frame, bad, other, operation, head, plane, node-row, end, frames}
-use Rattle.scope.specs.Judging.{Rooms, Sub, State, fresh, busy, Step, go, done, stop, uses, all-used, one-tree, root-ok, in-rooms, head-by, judge-head, step, Reading, read, refused, read-solid, Verdict, accepted, refusal, finish}
-use Rattle.theory.specs.Text.Counts.{sizes, one-size, one-sizes}
-use Rattle.theory.specs.Text.Rules.{Due, due-end, due-head}
-use Rattle.frames.specs.declared.Cursor.{Cursor}
-use Rattle.frames.specs.Promises.{Refuses, Reads, IsHead, is-head, IsEnd, is-end, Follows, bad-follows, more-follows}
+use Rattle.scope.specs.Judging.{Rooms, State, fresh, busy, go, done, all-used, one-tree, root-ok, in-rooms, head-by, judge-head, step, Reading, read, refused, read-solid, accepted, refusal, finish}
+use Rattle.frames.specs.Follows.{head-refuses, end-refuses}
+use Rattle.frames.specs.Promises.{Refuses, IsHead, Follows, bad-follows, more-follows}
 use Rattle.tables.specs.declared.Judged as Judged
 use Rattle.tables.specs.declared.Solid.{Solid}
 use Rattle.tables.specs.Rows.{last-before}
-use Rattle.tables.specs.Work.{stack, marked, all-marked}
+use Rattle.tables.proofs.Stacks.{one-deep, used-marks}
+use Rattle.tables.specs.Work.{all-marked}
 use Rattle.tables.specs.Promises.{judged, end-judged}
 use Rattle.solids.specs.declared.LinesRead as answer
 use Rattle.solids.specs.Lines.{EndLine, end-taken, no-end, bad-end}
-use Rattle.solids.specs.Reading.{PlanesSoFar, PlanesTold, NodesOver, NodesTold, RowsRead, RowsTold}
-use Rattle.solids.proofs.Lines.{line-goes, line-ends, line-refused, not-there, as-step, head-step, end-step}
+use Rattle.solids.specs.Reading.{PlanesSoFar, NodesOver, NodesTold, RowsTold}
+use Rattle.solids.proofs.Lines.{line-goes, line-ends, line-refused, as-step, head-step, end-step}
 
 -- ---- the end
-
-one-deep : (w : List ℤ) (d : ℕ) (st : List Sub) → sizes st ≡ stack w d → one-tree st ≡ leb d 1
-unfolding stack
-one-deep w d st e = one-sizes st ∙ ap one-size e ∙ by d
-  where
-    by : (d : ℕ) → one-size (stack w d) ≡ leb d 1
-    by zero = refl
-    by (suc zero) = refl
-    by (suc (suc d)) = sym (lt-leb (suc (suc d)) 1 (omega arith))
-
-used-marks : (w : List ℤ) (es : List Entry) (j : ℕ) → j ≤ 64 → ((k : ℕ) → k < 64 → marked w k ≡ uses k es) → all-used j es ≡ all-marked w j
-unfolding all-used all-marked
-used-marks w es zero h m = refl
-used-marks w es (suc j) h m = λ t. sym (m j (omega (arith, h))) t and used-marks w es j (omega (arith, h)) m t
-
-only-end : {r : ℕ} {q : Option Plane} {ps : List Plane} {es : List Entry} {st : List Sub} (f : Frame) → Due (busy 0 0 r q ps es st) f → IsEnd f
-only-end _ due-end = is-end
 
 -- ---- the rows below a head
 
@@ -88,16 +70,13 @@ module _ (l : ℕ) (s : Solid) {t : List ℕ} {from : ℕ} {xs : List ℤ} (few 
       where
         line : suc (l + s .planes + s .nodes) ≡ l + s .planes + s .nodes + 1
         line = omega arith
-    rows-end (no-end h) = λ a. nodes-left a ∙ not-there a _ (l + s .planes + s .nodes) only-end h
+    rows-end (no-end h) = λ a. nodes-left a ∙ end-refuses a (l + s .planes + s .nodes) (frames (drop next t)) (s .root) (last-before xs (s .planes)) (p .planes) (q .entries) (q .trees) h
     rows-end (bad-end h e) = λ a. nodes-left a ∙ line-refused a _ (l + s .planes + s .nodes) (h .first) (ending e a _)
 
 -- ---- the head
 
-only-head : (f : Frame) → Due fresh f → IsHead f
-only-head _ due-head = is-head
-
 pub head-missing : (a : Rooms) (l : ℕ) {fs : List Frame} {k : ℕ} → Refuses IsHead fs k → read-solid a fresh l fs ≡ refused k l
-head-missing a l h = not-there a fresh l only-head h
+head-missing a l {fs = fs} h = head-refuses a l fs h
 
 -- the head, judged as the code has judged it
 module _ (a : Rooms) (l n m r : ℕ) {fs gs : List Frame} (e : fs ≡ head n m r ∷ gs) where

@@ -5,8 +5,8 @@
 --     read-refusal, write-refusal   a refusal leaves every table all zeros
 use mathlib.Core.Path.{_≡_, refl, sym, ap, subst, _∙_}
 use mathlib.Core.Bool.{Bool, true, false, cond}
-use mathlib.Core.List.{List, _∷_, []}
-use Prim.Native.Nat.{ℕ, _+_, _-_, _*_, _/_, _≤_}
+use mathlib.Core.List.{List, []}
+use Prim.Native.Nat.{ℕ, _-_, _*_, _/_, _≤_}
 use native.Mathlib.Omega.{arith}
 use borrow.Author.Tests.{le-leb}
 use lib.Dec.{T, leb}
@@ -135,10 +135,10 @@ module _ {xs : List ℤ} {ns : List ℕ} {r n : ℕ} {u u′ : List ℕ} {v v′
 
       by : (a : Tables) → Flat a xs ns r × LawfulTables a → take n u′ ≡ text a → (j ≡ Judgement.the-variants.Sound (record { planes = length xs / 4; nodes = length ns / 3; root = r })) × (ys′ ≡ filled (pos 0) (length ys) xs) × (ms′ ≡ filled 0 (length ms) ns)
       by (tables ps es q) (f, l) e = (
-          k .answer ∙ ap judgement (worked _ (refusal 8 0) work ∙ taken) ∙ ap Judgement.the-variants.Sound (λ i. record { planes = sym rows i; nodes = sym lines i; root = sym (f .root) i }),
-          k .planes ∙ ap (left (pos 0) (length ys) plane-numbers) same ∙ ap (filled (pos 0) (length ys)) (sym (f .planes)),
-          k .nodes ∙ ap (left 0 (length ms) node-numbers) same ∙ ap (filled 0 (length ms)) (sym (f .nodes)),
-        )
+        k .answer ∙ ap judgement (worked _ (refusal 8 0) work ∙ taken) ∙ ap Judgement.the-variants.Sound (λ i. record { planes = sym rows i; nodes = sym lines i; root = sym (f .root) i }),
+        k .planes ∙ ap (left (pos 0) (length ys) plane-numbers) same ∙ ap (filled (pos 0) (length ys)) (sym (f .planes)),
+        k .nodes ∙ ap (left 0 (length ms) node-numbers) same ∙ ap (filled 0 (length ms)) (sym (f .nodes)),
+      )
         where
           rows : length xs / 4 ≡ length ps
           rows = omega (arith, ap length (f .planes), planes-count ps)

@@ -7,7 +7,6 @@ use frames::Cursor;
 use reading::read_solid;
 use tables::Judgement;
 use tables::Solid;
-use tables::clear;
 use writing::put_solid;
 ghost use mathlib.Core.Path.{_≡_};
 ghost use Prim.Native.Nat.{_≤_, _<_};
@@ -37,26 +36,6 @@ pub enum Written {
     Refused(u8),
 }
 
-// ---- tables of zeros
-
-// Makes each entry of a table of nodes zero.
-fn clear_nodes(t: &mut [u16])
-    ensures { λ _. ⌜ now (t .exit) ≡ replicate (length (now (t .entry))) 0 ⌝ }
-{
-    for i in 0..t.len() {
-        t[i] = 0;
-    }
-}
-
-// Makes each character of a text zero.
-fn clear_text(t: &mut [u8])
-    ensures { λ _. ⌜ now (t .exit) ≡ replicate (length (now (t .entry))) 0 ⌝ }
-{
-    for i in 0..t.len() {
-        t[i] = 0;
-    }
-}
-
 // ---- reading
 
 // A solid that was read, after which nothing may follow.
@@ -78,7 +57,7 @@ fn read_into(text: &[u8], planes: &mut [i64], nodes: &mut [u16], work: &mut [i64
     requires { ⌜ Blank (now planes) (now nodes) (now work) ⌝ }
     ensures { λ r. ⌜ IntoTold (now (text .entry)) (rooms (now (planes .entry)) (now (nodes .entry))) (length (now (work .entry))) (now (planes .exit)) (now (nodes .exit)) r ⌝ }
 {
-    if work.len() < Solid::WORK {
+    if work.len() < zeros::WORK {
         return Judgement::Refused(8, 0);
     }
     if Solid::MOST_TEXT < text.len() {
@@ -92,14 +71,14 @@ fn read_into(text: &[u8], planes: &mut [i64], nodes: &mut [u16], work: &mut [i64
 pub fn read(text: &[u8], planes: &mut [i64], nodes: &mut [u16], work: &mut [i64]) -> Judgement
     ensures { λ r. ⌜ ReadTold (now (text .entry)) (now (planes .entry)) (now (planes .exit)) (now (nodes .entry)) (now (nodes .exit)) (now (work .entry)) (now (work .exit)) r ⌝ }
 {
-    clear(planes);
-    clear_nodes(nodes);
-    clear(work);
+    zeros::clear(planes);
+    zeros::clear_nodes(nodes);
+    zeros::clear(work);
     let r = read_into(text, planes, nodes, work);
-    clear(work);
+    zeros::clear(work);
     let Judgement::Sound(s) = r else {
-        clear(planes);
-        clear_nodes(nodes);
+        zeros::clear(planes);
+        zeros::clear_nodes(nodes);
         return r;
     };
     Judgement::Sound(s)
@@ -124,7 +103,7 @@ fn put_text(planes: &[i64], nodes: &[u16], s: Solid, text: &mut [u8]) -> Written
 pub fn write(planes: &[i64], nodes: &[u16], root: u16, text: &mut [u8], work: &mut [i64]) -> Written
     ensures { λ r. ⌜ WriteTold (now (planes .entry)) (now (nodes .entry)) root (now (text .entry)) (now (text .exit)) (now (work .entry)) (now (work .exit)) r ⌝ }
 {
-    clear_text(text);
+    zeros::clear_text(text);
     match tables::judge(planes, nodes, root, work) {
         Judgement::Refused(k, _) => Written::Refused(k),
         Judgement::Sound(s) => put_text(planes, nodes, s, text),

@@ -13,17 +13,17 @@ use lib.Dec.{T, leb, eqb, eqb→eq}
 use lib.IntN.{ℤ, pos}
 use lib.ListN.{length, getD, drop, length-append, length-drop, drop-of-length-le}
 use lib.Seq.{drop-cons}
-use borrow.Author.Tests.{lt-leb}
 use Rattle.whole.specs.Tests.{_and_, differ, eq-test}
 use Rattle.scope.specs.Limits.{most-planes, most-nodes}
 use Rattle.scope.specs.Planes.{Fault, fault}
-use Rattle.scope.specs.Solids.{Entry, tables}
+use Rattle.scope.specs.Solids.{tables}
 use Rattle.scope.specs.Text.{Frame, other, plane, node-row, end}
-use Rattle.scope.specs.Judging.{Sub, add-row, all-used, uses, one-tree, Rooms, State, fresh, busy, go, stop, head-by, judge-head, root-ok, in-rooms, follows, plane-by, row-by, end-by, step, next, read-solid, refusal, finish, plane-table, node-table, judge-lent}
-use Rattle.theory.specs.Text.Counts.{sizes, size-row, sizes-of, row-size, one-size, one-sizes}
+use Rattle.scope.specs.Judging.{Sub, add-row, all-used, uses, Rooms, State, fresh, busy, go, stop, head-by, judge-head, root-ok, in-rooms, follows, plane-by, row-by, end-by, step, next, read-solid, refusal, finish, plane-table, node-table, judge-lent}
+use Rattle.theory.specs.Text.Counts.{sizes, size-row, sizes-of, row-size}
 use Rattle.theory.specs.Text.Lent.{lent, lent-rooms}
 use Rattle.tables.specs.Rows.{plane-at, entry-at, planes-to, entries-to, last-before}
-use Rattle.tables.specs.Work.{stack, marked, all-marked, runs, run-on}
+use Rattle.tables.proofs.Stacks.{one-deep, used-marks}
+use Rattle.tables.specs.Work.{stack, all-marked, runs, run-on}
 use Rattle.tables.specs.Promises.{judged, plane-judged, end-judged, sound-or, counts, close-judged, judgement, PlaneRefused, Standing, NodeRefused}
 use Rattle.tables.specs.declared.Judged.the-variants.{Fine, Refused}
 use Rattle.tables.specs.declared.Judgement.the-variants as Judgement
@@ -266,20 +266,6 @@ module _ (xs : List ℤ) (ns : List ℕ) (root : ℕ) where
       fell (some st) e = differ (cc)
 
   -- ---- the line after the nodes
-
-  one-deep : (w : List ℤ) (d : ℕ) (st : List Sub) → sizes st ≡ stack w d → one-tree st ≡ leb d 1
-  unfolding stack
-  one-deep w d st e = one-sizes st ∙ ap one-size e ∙ by d
-    where
-      by : (d : ℕ) → one-size (stack w d) ≡ leb d 1
-      by zero = refl
-      by (suc zero) = refl
-      by (suc (suc d)) = sym (lt-leb (suc (suc d)) 1 (omega arith))
-
-  used-marks : (w : List ℤ) (es : List Entry) (j : ℕ) → j ≤ 64 → ((k : ℕ) → k < 64 → marked w k ≡ uses k es) → all-used j es ≡ all-marked w j
-  unfolding all-used all-marked
-  used-marks w es zero h f = refl
-  used-marks w es (suc j) h f = λ t. sym (f j (omega arith)) t and used-marks w es j (omega arith) f t
 
   module _ (w : List ℤ) (d : ℕ) (few : n ≤ 64) (s : Standing ns n m w d) (b : BeforeNode 0 []) where
     stand : Trees m (stack w d)

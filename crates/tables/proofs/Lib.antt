@@ -1,7 +1,6 @@
 pub mod Heads
 pub mod Sides
 pub mod Stacks
-pub mod Fill
 pub mod Turn
 pub mod Lent
 pub mod Stages

@@ -1,5 +1,5 @@
 -- The work table: sizes of trees at its first places, and marks of planes.
-use mathlib.Core.Path.{_≡_, refl, ap, _∙_}
+use mathlib.Core.Path.{_≡_, refl, sym, ap, _∙_}
 use mathlib.Core.Bool.{Bool, true, false, cond, not}
 use mathlib.Core.List.{List, [], _∷_}
 use mathlib.Core.Logic.{_≢_}
@@ -7,15 +7,16 @@ use mathlib.Core.Option.{none, some}
 use Prim.Native.Nat.{ℕ, zero, suc, _+_, _-_, _≤_, _<_}
 use native.Mathlib.Omega.{arith}
 use native.Mathlib.Numerals.{add-one}
-use lib.Dec.{T, eqb, eqb→eq}
+use lib.Dec.{T, leb, eqb, eqb→eq}
 use lib.IntN.{ℤ, pos, negsuc, natAbs}
 use lib.ListN.{length, getD, set, length-set}
 use lib.Seq.{getD-set-same, getD-set-other}
-use borrow.Author.Tests.{lt-ltb, le-ltb}
+use borrow.Author.Tests.{lt-ltb, le-ltb, lt-leb}
 use Rattle.whole.specs.Tests.{_and_, _or_, differ, eq-false, eq-true, eq-test}
 use Rattle.scope.specs.Planes.{is-zero}
-use Rattle.scope.specs.Solids.{entry}
-use Rattle.theory.specs.Text.Counts.{Counted, counted, wrong, due-size, size-child, size-front, size-back, size-row}
+use Rattle.scope.specs.Solids.{Entry, entry}
+use Rattle.scope.specs.Judging.{Sub, uses, all-used, one-tree}
+use Rattle.theory.specs.Text.Counts.{sizes, one-size, one-sizes, Counted, counted, wrong, due-size, size-child, size-front, size-back, size-row}
 use Rattle.tables.specs.Work.{stack, total, marked, all-marked}
 
 -- ---- the child that a code names
@@ -179,3 +180,19 @@ marks-fail w (suc n) k h e = by (eqb k n) (eqb→eq k n) (eq-test k n) (λ l. ma
     by : (b : Bool) → (T b → k ≡ n) → (k ≡ n → T b) → (k < n → false ≡ all-marked w n) → false ≡ (not (is-zero (getD w (1000 + n) (pos 0))) and all-marked w n)
     by true f g r = let i : k ≡ n = f tt in rw (← i, e) refl
     by false f g r = let o : k ≢ n = g in rw (← r (omega arith)) (and-false (not (is-zero (getD w (1000 + n) (pos 0)))))
+
+-- ---- the end: one tree stands, and each plane is used
+
+pub one-deep : (w : List ℤ) (d : ℕ) (st : List Sub) → sizes st ≡ stack w d → one-tree st ≡ leb d 1
+unfolding stack
+one-deep w d st e = one-sizes st ∙ ap one-size e ∙ by d
+  where
+    by : (d : ℕ) → one-size (stack w d) ≡ leb d 1
+    by zero = refl
+    by (suc zero) = refl
+    by (suc (suc d)) = sym (lt-leb (suc (suc d)) 1 (omega arith))
+
+pub used-marks : (w : List ℤ) (es : List Entry) (j : ℕ) → j ≤ 64 → ((k : ℕ) → k < 64 → marked w k ≡ uses k es) → all-used j es ≡ all-marked w j
+unfolding all-used all-marked
+used-marks w es zero h f = refl
+used-marks w es (suc j) h f = λ t. sym (f j (omega (arith, h))) t and used-marks w es j (omega (arith, h)) f t

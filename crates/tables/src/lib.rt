@@ -40,9 +40,6 @@ impl Solid {
     pub const IN: u16 = 65535;
 
     pub const OUT: u16 = 65534;
-
-    // The length stated for a work table.
-    pub const WORK: usize = 4096;
 }
 
 // A row, or the number that refuses it.
@@ -277,17 +274,6 @@ pub fn judge_end(n: usize, work: &[i64], depth: usize) -> Judged
     Judged::Fine
 }
 
-// ---- a table of zeros
-
-// Makes each entry zero.
-pub fn clear(t: &mut [i64])
-    ensures { λ _. ⌜ now (t .exit) ≡ replicate (length (now (t .entry))) (pos 0) ⌝ }
-{
-    for i in 0..t.len() {
-        t[i] = 0;
-    }
-}
-
 // ---- all rows of lent tables
 
 // The refusal of a row at its line. A row that is fine has none: it is not asked for, and the number is 0.
@@ -397,12 +383,12 @@ fn judge_rows(planes: &[i64], nodes: &[u16], root: u16, work: &mut [i64]) -> Jud
 pub fn judge(planes: &[i64], nodes: &[u16], root: u16, work: &mut [i64]) -> Judgement
     ensures { λ r. ⌜ Judges (now (planes .entry)) (now (nodes .entry)) root (now (work .entry)) (now (work .exit)) r ⌝ }
 {
-    clear(work);
-    if work.len() < Solid::WORK {
+    zeros::clear(work);
+    if work.len() < zeros::WORK {
         return Judgement::Refused(8, 0);
     }
     let j = judge_rows(planes, nodes, root, work);
-    clear(work);
+    zeros::clear(work);
     j
 }
 

@@ -7,7 +7,6 @@ use Rattle.sections.proofs.section.Tie as tie
 use Rattle.sections.proofs.section.Reads as reads
 use Rattle.sections.proofs.section.Lts as lts
 use Rattle.sections.proofs.drawn.Reads as drawn-reads
-use Rattle.sections.proofs.table.clear.Reads as clear-reads
 
 clear-requires : tie.Need-clear-requires
 clear-requires c κs = search needs

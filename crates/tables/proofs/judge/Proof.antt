@@ -5,7 +5,7 @@ use borrow.Author.Tests.{le-leb, lt-leb}
 use lib.IntN.{pos}
 use lib.ListN.{length, replicate}
 use denote.Ref.{now}
-use Rattle.tables.proofs.Fill.{zeros}
+use Rattle.zeros.proofs.Fill.{zeros}
 use borrow.Author.Needs.{needs}
 use Rattle.tables.proofs.judge.Statement.{statement}
 use Rattle.tables.proofs.judge.Tie as tie

@@ -1,20 +1,19 @@
--- `sections::table::clear` meets its contract. The loop has filled the first i places, and kept the others. Assumes nothing.
+-- `zeros::clear` meets its contract. The invariant: i zeros, then what the table held. The measure is what is left of its length. Assumes nothing.
 use borrow.Author.Needs.{needs}
 use mathlib.Core.Path.{_≡_}
 use mathlib.Core.List.{_++_}
 use Prim.Native.Nat.{_-_, _≤_}
 use native.Mathlib.Omega.{arith}
-use lib.IntN.{pos}
 use lib.ListN.{length, length-set, drop, replicate}
 use denote.Ref.{now}
-use Rattle.sections.proofs.Cells.{fill-more, fill-all}
-use Rattle.sections.proofs.table.clear.Statement.{statement}
-use Rattle.sections.proofs.table.clear.Tie as tie
-use Rattle.sections.proofs.table.clear.Reads as reads
-use Rattle.sections.proofs.table.clear.Lts as lts
+use lib.IntN.{pos}
+use Rattle.zeros.proofs.Fill.{fill-more, fill-all}
+use Rattle.zeros.proofs.clear.Statement.{statement}
+use Rattle.zeros.proofs.clear.Tie as tie
 
 abbrev Inv-loop : tie.InvT-loop
-Inv-loop t₀ i₀ i-end t i = (i ≤ length t₀) × (i-end ≡ length t₀) × (length t ≡ length t₀) × (t ≡ replicate i (pos 0) ++ drop i t₀)
+Inv-loop t₀ i₀ i-end t i =
+    (i ≤ length t₀) × (i-end ≡ length t₀) × (length t ≡ length t₀) × (t ≡ replicate i (pos 0) ++ drop i t₀)
 
 abbrev μ-loop : tie.MeasureT-loop
 μ-loop t₀ i₀ i-end t i = length t₀ - i

@@ -1,4 +1,6 @@
 -- A loop that fills a list from the front, one store a turn, at any element type. Assumes nothing.
+--     fill-more, fill-all   one place more, and all
+--     zeros                 zeros of a table that is as long
 use mathlib.Core.Path.{_≡_, refl, ap, _∙_}
 use mathlib.Core.List.{List, [], _∷_, _++_, append-nil}
 use Prim.Native.Nat.{ℕ, zero, suc, _+_, _≤_, _<_}

@@ -1,0 +1,34 @@
+// Tables of zeros. Every call makes each table lent to it zero, the whole slice, before it writes an answer, and again after a refusal.
+ghost use mathlib.Core.Path.{_≡_};
+ghost use lib.IntN.{pos};
+ghost use lib.ListN.{length, replicate};
+
+// The length stated for a work table.
+pub const WORK: usize = 4096;
+
+// Makes each entry of a table of planes, or of a work table, zero.
+pub fn clear(t: &mut [i64])
+    ensures { λ _. ⌜ now (t .exit) ≡ replicate (length (now (t .entry))) (pos 0) ⌝ }
+{
+    for i in 0..t.len() {
+        t[i] = 0;
+    }
+}
+
+// Makes each entry of a table of nodes zero.
+pub fn clear_nodes(t: &mut [u16])
+    ensures { λ _. ⌜ now (t .exit) ≡ replicate (length (now (t .entry))) 0 ⌝ }
+{
+    for j in 0..t.len() {
+        t[j] = 0;
+    }
+}
+
+// Makes each character of a text zero.
+pub fn clear_text(t: &mut [u8])
+    ensures { λ _. ⌜ now (t .exit) ≡ replicate (length (now (t .entry))) 0 ⌝ }
+{
+    for k in 0..t.len() {
+        t[k] = 0;
+    }
+}
