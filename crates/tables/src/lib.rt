@@ -388,7 +388,7 @@ pub fn judge(planes: &[i64], nodes: &[u16], root: u16, work: &mut [i64]) -> Judg
         return Judgement::Refused(8, 0);
     }
     let j = judge_rows(planes, nodes, root, work);
-    zeros::clear(work);
+    zeros::clear(work); // of what the rows left
     j
 }
 
