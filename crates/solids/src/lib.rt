@@ -75,7 +75,7 @@ pub fn read(text: &[u8], planes: &mut [i64], nodes: &mut [u16], work: &mut [i64]
     zeros::clear_nodes(nodes);
     zeros::clear(work);
     let r = read_into(text, planes, nodes, work);
-    zeros::clear(work);
+    zeros::clear(work); // left as zeros
     let Judgement::Sound(s) = r else {
         zeros::clear(planes);
         zeros::clear_nodes(nodes);

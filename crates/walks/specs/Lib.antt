@@ -1,0 +1,4 @@
+pub mod Standing
+pub mod Putting
+pub mod Marks
+pub mod Walks
