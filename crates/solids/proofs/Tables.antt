@@ -1,5 +1,5 @@
 -- Rows stored one after the other in tables of zeros, and rows looked up again.
---     cleared, zeros-held                  a table of zeros; no rows yet
+--     zeros-held                           no rows yet
 --     planes-more, plane-here, last-kept   one plane more; it is the row stored last; the row before it stays
 --     nodes-more, node-here                the same of nodes
 use mathlib.Core.Path.{_≡_, refl, sym, ap, _∙_}
@@ -8,7 +8,7 @@ use mathlib.Core.Option.{some}
 use Prim.Native.Nat.{ℕ, zero, suc, _+_, _-_, _*_, _≤_, _<_}
 use native.Mathlib.Omega.{arith}
 use lib.IntN.{ℤ, pos}
-use lib.ListN.{length, getD, replicate, length-replicate, List·getD-append, length-append}
+use lib.ListN.{length, getD, replicate, List·getD-append, length-append}
 use lib.Seq.{sets, length-sets}
 use Rattle.scope.specs.Planes.{Plane}
 use Rattle.scope.specs.Solids.{Entry, entry}
@@ -21,10 +21,6 @@ use Rattle.solids.specs.Reading.{HoldsPlanes, HoldsNodes}
 -- ---- any table
 
 module _ {A : Type 0} (o : A) where
-  -- a table that was cleared is a table of zeros
-  pub cleared : (xs ys : List A) → ys ≡ replicate (length xs) o → ys ≡ replicate (length ys) o
-  cleared xs ys e = e ∙ ap (λ n. replicate n o) (sym (ap length e ∙ length-replicate (length xs) o))
-
   -- a table of zeros holds nothing
   pub zeros-held : (xs : List A) → xs ≡ replicate (length xs) o → xs ≡ filled o (length xs) []
   zeros-held xs z = z ∙ ap (λ n. replicate n o) {x = length xs} {y = length xs - length {A = A} []} (omega arith)

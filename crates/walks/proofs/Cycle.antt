@@ -6,9 +6,9 @@
 --     side-cut, side-mark, side-b               the side's walk, from the answers of these
 use mathlib.Core.Path.{_≡_, refl, sym, ap, subst, _∙_}
 use mathlib.Core.Bool.{Bool, true, false}
-use mathlib.Core.List.{List, [], _∷_, _++_}
+use mathlib.Core.List.{List, [], _∷_}
 use mathlib.Core.Option.{Option, none, some}
-use Prim.Native.Nat.{ℕ, zero, suc, _+_, _*_, _≤_, _<_}
+use Prim.Native.Nat.{ℕ, suc, _+_, _*_, _≤_, _<_}
 use native.Mathlib.Decide.{decLe}
 use native.Mathlib.Omega.{arith}
 use lib.Dec.{eqb}
@@ -18,11 +18,11 @@ use lib.ListN.{length, getD, set}
 use lib.Seq.{sets, getD-set-other}
 use Rattle.whole.specs.Tests.{differ, is-true}
 use Rattle.scope.specs.Planes.{Plane, in-range}
-use Rattle.scope.specs.Solids.{Mark, IN, OUT, Tree, leaf, node, mark, number, place}
+use Rattle.scope.specs.Solids.{Mark, Tree, leaf, node, mark, number, place}
 use Rattle.scope.specs.Cells.{Cuts, Walked, end, join, Operation, operate}
 use Rattle.scope.specs.Text.{operation-code}
 use Rattle.theory.specs.Cells.Sides.{half}
-use Rattle.theory.specs.Cells.Path.{Kept, take, kept-few}
+use Rattle.theory.specs.Cells.Path.{take, kept-few}
 use Rattle.planes.specs.Values.{plane, meeting}
 use Rattle.planes.specs.Bounds.{PlaneIn, in-range-in}
 use Rattle.planes.specs.declared.Plane as struct
@@ -39,9 +39,9 @@ use Rattle.walks.specs.declared.Walked.the-variants.{Done, Refused}
 use Rattle.walks.specs.Standing.{rows-of, offset, list, plane-number, RowIs, Stands}
 use Rattle.walks.specs.Putting.{Room, Closed, Emitted}
 use Rattle.walks.specs.Marks.{turn-code, EndIn, EndsAs, in-b, alone, asks, EndIs}
-use Rattle.walks.specs.Walks.{In, Ends, WalkedIn, Ground, StandsIn, Here, SideIn, NodeIn, DescendIn, SameWalk, ToCode, ToCut, LeadsFrom, Lower, DescendTold, Did}
+use Rattle.walks.specs.Walks.{In, Ends, WalkedIn, Ground, StandsIn, Here, SideIn, NodeIn, DescendIn, DescendTold, Did}
 use Rattle.walks.proofs.RowsRead.{offset-b, in-b as in-b-rows}
-use Rattle.walks.proofs.Emits.{room?, room-same, Got, got, mark-done, closed, front-lost, back-lost}
+use Rattle.walks.proofs.Emits.{room?, room-same, got, mark-done, closed, front-lost, back-lost}
 use Rattle.walks.proofs.Ways.{RowAt, as-row, as-mark, code-small, BothSides, walk-cut, second-alone}
 
 -- a store leaves the entries before it

@@ -9,30 +9,29 @@
 use mathlib.Core.Path.{_≡_, refl, sym, ap, subst, _∙_}
 use mathlib.Core.Bool.{Bool, true, false}
 use mathlib.Core.List.{List, _∷_}
-use mathlib.Core.Option.{Option, none, some}
 use Prim.Native.Nat.{ℕ, _+_, _*_, _≤_, _<_}
 use native.Mathlib.Omega.{arith}
-use lib.IntN.{ℤ, pos}
+use lib.IntN.{ℤ}
 use lib.ListN.{length, getD}
 use Rattle.whole.specs.Order.{pos-not-zero, neg-not-zero, lt-not-lt}
-use Rattle.scope.specs.Planes.{Plane, Point, at, flip, Lawful}
+use Rattle.scope.specs.Planes.{Plane, Point, flip, Lawful}
 use Rattle.scope.specs.Solids.{Mark, IN, OUT, Tree, leaf, node, mark, number}
-use Rattle.scope.specs.Cells.{Inside, box, Cuts, AllFront, AllBack, Walked, end, cut, fore, aft, join, Operation, operate}
+use Rattle.scope.specs.Cells.{Inside, Cuts, AllFront, AllBack, Walked, end, cut, fore, aft, join}
 use Rattle.theory.specs.Planes.Lawful.{lawful-nonzero}
 use Rattle.theory.specs.Cells.Box.{origin, box-origin}
 use Rattle.theory.specs.Cells.Sides.{half, half-front, half-back}
 use Rattle.theory.specs.Cells.Path.{kept-few}
-use Rattle.planes.specs.Values.{plane, meeting}
+use Rattle.planes.specs.Values.{plane}
 use Rattle.planes.specs.declared.Plane as struct
 use Rattle.planes.specs.declared.Meeting.{Meeting}
 use Rattle.tables.specs.Rows.{plane-at}
 use Rattle.cells.specs.declared.Classified.{Classified}
 use Rattle.cells.specs.declared.Classified.the-variants as Classified
-use Rattle.cells.specs.Paths.{OnPath, at-box, below, Witness, witness-at, Classes, is-cut, is-front, is-behind, Classified-in, ClassifyIn}
+use Rattle.cells.specs.Paths.{OnPath, at-box, below, witness-at, Classes, is-cut, is-front, is-behind, Classified-in, ClassifyIn}
 use Rattle.cells.proofs.Paths.{on-map, on-kept}
 use Rattle.walks.specs.declared.Reached as Reached
-use Rattle.walks.specs.Standing.{rows-of, offset, list, plane-number, FieldIn, NumberIn, RowIs, Stands, at-mark, at-row}
-use Rattle.walks.specs.Walks.{In, WalkedIn, Ground, StandsIn, PlaneOfIn, DescendIn, SameWalk, ToCode, ToCut, Leads, LeadsFrom, Falls, StepTold, Lower, DescendTold}
+use Rattle.walks.specs.Standing.{rows-of, offset, list, plane-number, FieldIn, RowIs, Stands, at-mark, at-row}
+use Rattle.walks.specs.Walks.{In, WalkedIn, StandsIn, PlaneOfIn, DescendIn, SameWalk, ToCode, ToCut, LeadsFrom, StepTold, DescendTold}
 use Rattle.walks.proofs.Marks.{mark-in}
 
 -- ---- what stands at a code

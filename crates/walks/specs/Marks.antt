@@ -5,7 +5,7 @@
 use mathlib.Core.Path.{_≡_}
 use mathlib.Core.Option.{Option, none, some}
 use Prim.Native.Nat.{ℕ}
-use Rattle.scope.specs.Solids.{Mark, IN, OUT, mark, number}
+use Rattle.scope.specs.Solids.{Mark, mark, number}
 use Rattle.scope.specs.Cells.{Operation, operate}
 use Rattle.scope.specs.Text.{operation-code}
 use Rattle.walks.specs.declared.Ended.{Ended}

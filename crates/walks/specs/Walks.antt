@@ -14,7 +14,7 @@ use lib.IntN.{ℤ, pos}
 use lib.ListN.{length, getD}
 use Rattle.whole.specs.Members.{_∈_}
 use Rattle.scope.specs.Planes.{Plane, Lawful}
-use Rattle.scope.specs.Solids.{Mark, Tree, leaf, node, mark, number}
+use Rattle.scope.specs.Solids.{Mark, Tree, leaf, node}
 use Rattle.scope.specs.Cells.{Walked, join, Second, Operation, operate}
 use Rattle.scope.specs.Text.{operation-code}
 use Rattle.planes.specs.Values.{meeting}

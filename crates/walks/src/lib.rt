@@ -11,6 +11,7 @@ use cells::opposite;
 use cells::push;
 use planes::Meeting;
 use planes::Plane;
+pub use rows::IN_A;
 use rows::close;
 use rows::ended;
 use rows::field;

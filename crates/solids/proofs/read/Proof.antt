@@ -3,7 +3,7 @@ use mathlib.Core.Path.{ap, _∙_}
 use lib.IntN.{pos}
 use lib.ListN.{replicate}
 use denote.Ref.{now}
-use Rattle.solids.proofs.Tables.{cleared}
+use Rattle.zeros.proofs.Fill.{cleared}
 use Rattle.solids.proofs.Told.{told-refused, told-sound}
 use borrow.Author.Needs.{needs}
 use Rattle.solids.proofs.read.Statement.{statement}

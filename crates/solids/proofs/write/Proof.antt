@@ -2,7 +2,7 @@
 use mathlib.Core.Path.{refl, sym, _∙_}
 use lib.ListN.{length}
 use denote.Ref.{now}
-use Rattle.solids.proofs.Tables.{cleared}
+use Rattle.zeros.proofs.Fill.{cleared}
 use Rattle.solids.proofs.Fitted.{judged-sound, fitted-lent, write-refused, write-sound}
 use borrow.Author.Needs.{needs}
 use Rattle.solids.proofs.write.Statement.{statement}

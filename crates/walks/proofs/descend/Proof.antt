@@ -1,3 +1,4 @@
+-- `walks::descend` meets its contract. The invariant: the way leads from the code to the place, at most as far as the code. The measure is the rank of the place. Assumes nothing.
 use mathlib.Core.Path.{_≡_, refl, _∙_}
 use Prim.Native.Nat.{_≤_, _<_}
 use native.Mathlib.Omega.{arith}
@@ -9,9 +10,6 @@ use Rattle.walks.proofs.Ways.{descend-start, descend-here, descend-next
 use borrow.Author.Needs.{needs}
 use Rattle.walks.proofs.descend.Statement.{statement}
 use Rattle.walks.proofs.descend.Tie as tie
-use Rattle.walks.proofs.descend.Reads as reads
-use Rattle.walks.proofs.descend.Lts as lts
-use Rattle.walks.proofs.step.Reads as step-reads
 
 abbrev Inv-loop : tie.InvT-loop
 Inv-loop planes a b numbers mark path depth first₀ second₀ code at₀ first second at =
@@ -20,42 +18,33 @@ Inv-loop planes a b numbers mark path depth first₀ second₀ code at₀ first 
 abbrev μ-loop : tie.MeasureT-loop
 μ-loop planes a b numbers mark path depth first₀ second₀ code at₀ first second at = rank at
 
--- src/walks.rt:84:5
 loop-holds : tie.Need-loop-holds Inv-loop μ-loop
 loop-holds c = (refl, refl, λ h. (omega arith, h), descend-start (c .before .before .before .args .code))
 
--- src/walks.rt:85:13
 step-requires : tie.Need-step-requires Inv-loop μ-loop
 step-requires c κs = let l = (c .before .before .before .loop) in (descend-here (l .inv .3) (c .before .before .before .before .before .before .before .pre) (l .first) (l .second) (l .inv .0) (l .inv .1), c .before .before .loop-test .taken)
 
--- src/walks.rt:86:27
 enum-known-s : tie.Need-enum-known-s Inv-loop μ-loop
 enum-known-s c = search needs
 
--- src/walks.rt:87:13
 enum-told : tie.Need-enum-told Inv-loop μ-loop
 enum-told c = search needs
 
--- src/walks.rt:87:13
 same-length : tie.Need-same-length Inv-loop μ-loop
 same-length c = let s = (c .before .before .before .before .step) in s .kept .1 .1 .1 .1 .1 .1 .1 .0 ∙ c .before .before .before .before .before .before .before .before .loop .inv .0
 
--- src/walks.rt:87:13
 same-length-2 : tie.Need-same-length-2 Inv-loop μ-loop
 same-length-2 c = let s = (c .before .before .before .before .step) in s .kept .1 .1 .1 .1 .1 .1 .1 .1 .0 ∙ c .before .before .before .before .before .before .before .before .loop .inv .1
 
--- src/walks.rt:87:13
 returns : tie.Need-returns Inv-loop μ-loop
 returns c =
     let a = c .before .before .before .before .before .before .before .before .before .before .before .before .args in
     let l = (c .before .before .before .before .before .before .before .before .loop) in
     descend-ended (l .inv .3) (c .before .before .before .before .before .before .before .loop-test .taken) (l .inv .2) (c .enum-told .given .1) (c .before .before .before .before .step .ensures)
 
--- src/walks.rt:84:5
 loop-less : tie.Need-loop-less Inv-loop μ-loop
 loop-less c = let l = (c .before .before .before .before .before .before .before .before .before .loop) in rank-under (c .before .s .given .0 .0) (l .at) (c .before .before .before .before .before .before .before .before .loop-test .taken) (stepped (c .before .s .given .1) (c .before .before .before .before .before .step .ensures) .falls)
 
--- src/walks.rt:84:5
 loop-again : tie.Need-loop-again Inv-loop μ-loop
 loop-again c =
     let l = (c .before .before .before .before .before .before .before .before .before .loop) in
@@ -63,15 +52,12 @@ loop-again c =
     let t = c .before .before .before .before .before .before .before .before .loop-test .taken in
     (c .before .before .before .before .before .step .kept .1 .1 .1 .1 .1 .1 .1 .0 ∙ l .inv .0, c .before .before .before .before .before .step .kept .1 .1 .1 .1 .1 .1 .1 .1 .0 ∙ l .inv .1, λ h. (omega (arith, k .falls h, l .inv .2 t .0), l .inv .2 t .1), descend-next (l .inv .3) k)
 
--- src/walks.rt:68:1
 same-length-3 : tie.Need-same-length-3 Inv-loop μ-loop
 same-length-3 c = c .before .loop .inv .0
 
--- src/walks.rt:68:1
 same-length-4 : tie.Need-same-length-4 Inv-loop μ-loop
 same-length-4 c = c .before .loop .inv .1
 
--- src/walks.rt:68:1
 returns-2 : tie.Need-returns-2 Inv-loop μ-loop
 returns-2 c = record { lower = c .loop-test .left; leads = c .before .loop .inv .3 }
 

@@ -1,29 +1,21 @@
+-- `walks::rows::close` meets its contract. Assumes nothing.
 use Rattle.walks.proofs.RowsRead.{closed-mark, closed-row}
 use borrow.Author.Needs.{needs}
 use Rattle.walks.proofs.rows.close.Statement.{statement}
 use Rattle.walks.proofs.rows.close.Tie as tie
-use Rattle.walks.proofs.rows.close.Reads as reads
-use Rattle.walks.proofs.rows.close.Lts as lts
-use Rattle.walks.proofs.rows.emit.Reads as emit-reads
-use Rattle.walks.proofs.rows.same_mark.Reads as same-mark-reads
 
--- src/rows.rt:80:8
 same-mark-requires : tie.Need-same-mark-requires
 same-mark-requires c κs = search needs
 
--- src/rows.rt:81:9
 returns : tie.Need-returns
 returns c = closed-mark (c .before .same-mark .ensures) (c .if1 .taken)
 
--- src/rows.rt:83:5
 emit-requires : tie.Need-emit-requires
 emit-requires c κs = search needs
 
--- src/rows.rt:76:1
 same-length : tie.Need-same-length
 same-length c = search needs
 
--- src/rows.rt:76:1
 returns-2 : tie.Need-returns-2
 returns-2 c = closed-row (c .before .before .before .before .before .same-mark .ensures) (c .before .before .before .before .if1 .left) (c .before .before .emit .ensures)
 

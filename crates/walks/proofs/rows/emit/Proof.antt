@@ -1,3 +1,4 @@
+-- `walks::rows::emit` meets its contract. Assumes nothing.
 use native.Mathlib.Omega.{arith}
 use lib.ListN.{length-set}
 use denote.Ref.{now}
@@ -5,66 +6,49 @@ use Rattle.walks.proofs.RowsRead.{put-over, put-three}
 use borrow.Author.Needs.{needs}
 use Rattle.walks.proofs.rows.emit.Statement.{statement}
 use Rattle.walks.proofs.rows.emit.Tie as tie
-use Rattle.walks.proofs.rows.emit.Reads as reads
-use Rattle.walks.proofs.rows.emit.Lts as lts
 
--- src/rows.rt:54:9
 returns : tie.Need-returns
 returns c = put-over (λ r. omega (arith, r .rows, c .if1 .taken))
 
--- src/rows.rt:57:9
 returns-2 : tie.Need-returns-2
 returns-2 c = put-over (λ r. omega (arith, r .few, c .if2 .taken))
 
--- src/rows.rt:59:14
 mul-at : tie.Need-mul-at
 mul-at c = search needs
 
--- src/rows.rt:60:5
 mul-out : tie.Need-mul-out
 mul-out c = search needs
 
--- src/rows.rt:60:5
 slice-write-out : tie.Need-slice-write-out
 slice-write-out c = search needs
 
--- src/rows.rt:61:9
 add-out : tie.Need-add-out
 add-out c = search needs
 
--- src/rows.rt:61:5
 mul-out-2 : tie.Need-mul-out-2
 mul-out-2 c = search needs
 
--- src/rows.rt:61:5
 slice-write-out-2 : tie.Need-slice-write-out-2
 slice-write-out-2 c = simp length-set (omega (arith, c .before .if1 .left))
 
--- src/rows.rt:62:9
 add-out-2 : tie.Need-add-out-2
 add-out-2 c = search needs
 
--- src/rows.rt:62:5
 mul-out-3 : tie.Need-mul-out-3
 mul-out-3 c = search needs
 
--- src/rows.rt:62:5
 slice-write-out-3 : tie.Need-slice-write-out-3
 slice-write-out-3 c = simp length-set (omega (arith, c .before .if1 .left))
 
--- src/rows.rt:63:18
 cast-t13 : tie.Need-cast-t13
 cast-t13 c = search needs
 
--- src/rows.rt:63:31
 add-t8 : tie.Need-add-t8
 add-t8 c = search needs
 
--- src/rows.rt:49:1
 same-length : tie.Need-same-length
 same-length c = search needs
 
--- src/rows.rt:49:1
 returns-3 : tie.Need-returns-3
 returns-3 c = let a = c .before .before .args in put-three (now (a .out)) (a .next) (a .n) (a .f) (a .b) (record { rows = omega (arith, c .before .if1 .left); few = omega (arith, c .if2 .left) })
 

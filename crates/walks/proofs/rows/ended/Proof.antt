@@ -1,32 +1,24 @@
+-- `walks::rows::ended` meets its contract (proofs/Marks). Assumes nothing.
 use Rattle.scope.specs.Solids.{IN, OUT}
 use Rattle.walks.proofs.Marks.{end-in, end-either, ended-b, ended-alone, ended-asks}
 use Rattle.walks.proofs.rows.ended.Statement.{statement}
 use Rattle.walks.proofs.rows.ended.Tie as tie
-use Rattle.walks.proofs.rows.ended.Reads as reads
-use Rattle.walks.proofs.rows.ended.Lts as lts
-use Rattle.walks.proofs.rows.operated.Reads as operated-reads
 
--- src/rows.rt:101:28
 operated-requires : tie.Need-operated-requires
 operated-requires c κs = end-in (c .if1 .taken) (c .before .pre)
 
--- src/rows.rt:101:9
 returns : tie.Need-returns
 returns c = ended-b (c .before .if1 .taken) (c .operated .ensures)
 
--- src/rows.rt:103:9
 operated-requires-2 : tie.Need-operated-requires-2
 operated-requires-2 c κs = end-either IN (c .before .pre)
 
--- src/rows.rt:104:13
 operated-requires-3 : tie.Need-operated-requires-3
 operated-requires-3 c κs = end-either OUT (c .before .before .pre)
 
--- src/rows.rt:105:9
 returns-2 : tie.Need-returns-2
 returns-2 c = ended-alone (c .before .before .before .if1 .left) (c .before .before .operated2 .ensures) (c .before .operated3 .ensures) (c .if2 .taken)
 
--- src/rows.rt:96:1
 returns-3 : tie.Need-returns-3
 returns-3 c = ended-asks (c .before .before .before .if1 .left)
 

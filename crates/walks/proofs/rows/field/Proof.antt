@@ -1,3 +1,4 @@
+-- `walks::rows::field` meets its contract. Assumes nothing.
 use mathlib.Core.Path.{ap}
 use Prim.Native.Nat.{_+_, _*_}
 use native.Mathlib.Omega.{arith}
@@ -7,38 +8,28 @@ use Rattle.walks.proofs.RowsRead.{in-a, in-b}
 use borrow.Author.Needs.{needs}
 use Rattle.walks.proofs.rows.field.Statement.{statement}
 use Rattle.walks.proofs.rows.field.Tie as tie
-use Rattle.walks.proofs.rows.field.Reads as reads
-use Rattle.walks.proofs.rows.field.Lts as lts
 
--- src/rows.rt:27:14
 mul-at : tie.Need-mul-at
 mul-at c = search needs
 
--- src/rows.rt:27:14
 add-at : tie.Need-add-at
 add-at c = search needs
 
--- src/rows.rt:29:16
 mul-result : tie.Need-mul-result
 mul-result c = search needs
 
--- src/rows.rt:29:16
 shared-slice-read-result : tie.Need-shared-slice-read-result
 shared-slice-read-result c = let a = c .before .before .args in omega (arith, c .before .before .pre .inside, c .before .before .pre .one-of-three, ap length (in-a (a .mark) (now (a .a)) (now (a .b)) (c .before .if1 .taken)))
 
--- src/rows.rt:29:9
 returns : tie.Need-returns
 returns c = let a = c .before .before .args in ap (λ l. getD l (3 * a .row + a .k) 0) (in-a (a .mark) (now (a .a)) (now (a .b)) (c .before .if1 .taken))
 
--- src/rows.rt:31:5
 mul-result-2 : tie.Need-mul-result-2
 mul-result-2 c = search needs
 
--- src/rows.rt:31:5
 shared-slice-read-result-2 : tie.Need-shared-slice-read-result-2
 shared-slice-read-result-2 c = let a = c .before .before .args in omega (arith, c .before .before .pre .inside, c .before .before .pre .one-of-three, ap length (in-b (a .mark) (now (a .a)) (now (a .b)) (c .before .if1 .left)))
 
--- src/rows.rt:23:1
 returns-2 : tie.Need-returns-2
 returns-2 c = let a = c .before .before .args in ap (λ l. getD l (3 * a .row + a .k) 0) (in-b (a .mark) (now (a .a)) (now (a .b)) (c .before .if1 .left))
 

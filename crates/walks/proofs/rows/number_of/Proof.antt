@@ -1,3 +1,4 @@
+-- `walks::rows::number_of` meets its contract. Assumes nothing.
 use native.Mathlib.Omega.{arith}
 use denote.Ref.{now}
 use Rattle.walks.specs.Standing.{rows-of}
@@ -5,43 +6,31 @@ use Rattle.walks.proofs.RowsRead.{offset-a, offset-b, first-entry, numb
 use borrow.Author.Needs.{needs}
 use Rattle.walks.proofs.rows.number_of.Statement.{statement}
 use Rattle.walks.proofs.rows.number_of.Tie as tie
-use Rattle.walks.proofs.rows.number_of.Reads as reads
-use Rattle.walks.proofs.rows.number_of.Lts as lts
-use Rattle.walks.proofs.rows.field.Reads as field-reads
 
--- src/rows.rt:39:13
 field-requires : tie.Need-field-requires
 field-requires c κs = search needs
 
--- src/rows.rt:39:13
 cast-n : tie.Need-cast-n
 cast-n c = search needs
 
--- src/rows.rt:41:16
 mul-result : tie.Need-mul-result
 mul-result c = search needs
 
--- src/rows.rt:41:16
 shared-slice-read-result : tie.Need-shared-slice-read-result
 shared-slice-read-result c = let a = c .before .before .before .before .before .before .args in omega (arith, c .before .before .field .ensures, c .before .before .before .before .before .before .pre .numbered, offset-a (a .mark) (c .before .if1 .taken), first-entry (rows-of (a .mark) (now (a .a)) (now (a .b))) (a .row))
 
--- src/rows.rt:41:9
 returns : tie.Need-returns
 returns c = let a = c .before .before .before .before .before .before .args in number-a (now (a .numbers)) (now (a .a)) (now (a .b)) (a .mark) (a .row) (c .before .if1 .taken) (c .before .before .field .ensures)
 
--- src/rows.rt:43:13
 add-result : tie.Need-add-result
 add-result c = search needs
 
--- src/rows.rt:43:5
 mul-result-2 : tie.Need-mul-result-2
 mul-result-2 c = search needs
 
--- src/rows.rt:43:5
 shared-slice-read-result-2 : tie.Need-shared-slice-read-result-2
 shared-slice-read-result-2 c = let a = c .before .before .before .before .before .before .args in omega (arith, c .before .before .field .ensures, c .before .before .before .before .before .before .pre .numbered, offset-b (a .mark) (c .before .if1 .left), first-entry (rows-of (a .mark) (now (a .a)) (now (a .b))) (a .row))
 
--- src/rows.rt:35:1
 returns-2 : tie.Need-returns-2
 returns-2 c = let a = c .before .before .before .before .before .before .args in number-b (now (a .numbers)) (now (a .a)) (now (a .b)) (a .mark) (a .row) (c .before .if1 .left) (c .before .before .field .ensures)
 

@@ -1,15 +1,12 @@
+-- `walks::rows::same_mark` meets its contract. Assumes nothing.
 use mathlib.Core.Path.{refl}
 use borrow.Author.Tests.{eq-eqb, ne-eqb}
 use Rattle.walks.proofs.rows.same_mark.Statement.{statement}
 use Rattle.walks.proofs.rows.same_mark.Tie as tie
-use Rattle.walks.proofs.rows.same_mark.Reads as reads
-use Rattle.walks.proofs.rows.same_mark.Lts as lts
 
--- src/rows.rt:69:1
 returns : tie.Need-returns
 returns c = rw (eq-eqb (c .before .args .f) (c .before .args .b) (c .if1 .taken)) refl
 
--- src/rows.rt:69:1
 returns-2 : tie.Need-returns-2
 returns-2 c = rw (ne-eqb (c .before .args .f) (c .before .args .b) (c .if1 .left)) refl
 

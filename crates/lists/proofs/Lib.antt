@@ -1,0 +1,5 @@
+mod Rows
+mod Used
+mod Puts
+mod Listings
+mod Joins

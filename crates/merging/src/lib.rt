@@ -1,0 +1,190 @@
+// The merge of two solids, as document 01's "Cells and the merge" has it: lent tables in, lent tables out.
+// The planes of A and B become one ascending list; the walks put rows out with its numbers. Then the planes that no row uses go, and the
+// rows' numbers change. A's planes, nodes and root code are ap, an, ar, and B's bp, bn, br.
+use lists::Listed;
+use tables::Judgement;
+use tables::Solid;
+use walks::Turn;
+use walks::Walked;
+ghost use mathlib.Core.Path.{_≡_};
+ghost use Prim.Native.Nat.{_≤_};
+ghost use lib.ListN.{length};
+ghost use Rattle.scope.specs.Judging.{known as is-known};
+ghost use Rattle.merging.specs.Promises.{listed-as, SoundIn, LentIn, SoundTold, JudgedIn, JudgedTold, MergeTold};
+
+// ---- the answers
+
+// The merged solid's counts and root code, or the number of the refusal.
+pub enum Merged {
+    Solid(Solid),
+    Refused(u8),
+}
+
+// ---- two solids
+
+// The counts of the merged solid, of m rows and that root code, from those of its planes.
+fn listed(l: Listed, m: usize, root: u16) -> Merged
+    ensures { λ r. ⌜ r ≡ listed-as l m root ⌝ }
+{
+    match l {
+        Listed::Refused(k) => Merged::Refused(k),
+        Listed::Planes(n) => Merged::Solid(Solid {
+            planes: n,
+            nodes: m,
+            root,
+        }),
+    }
+}
+
+// The merge of two sound solids, put out into tables of zeros, with tables lent for the joined list and for sections.
+fn merge_with(
+    op: u8,
+    ap: &[i64],
+    an: &[u16],
+    ar: u16,
+    bp: &[i64],
+    bn: &[u16],
+    br: u16,
+    planes: &mut [i64],
+    nodes: &mut [u16],
+    path: &mut [i64],
+    joined: &mut [i64],
+    numbers: &mut [u16],
+    first: &mut [i64],
+    second: &mut [i64],
+) -> Merged
+    requires { ⌜ SoundIn op (now ap) (now an) ar (now bp) (now bn) br (now planes) (now nodes) (now path) × LentIn (now joined) (now numbers) (now first) (now second) ⌝ }
+    ensures { λ r. ⌜ SoundTold op (now (ap .entry)) (now (an .entry)) ar (now (bp .entry)) (now (bn .entry)) br (now (planes .entry)) (now (planes .exit)) (now (nodes .entry)) (now (nodes .exit)) r ⌝ }
+{
+    let n = lists::join(ap, bp, joined, numbers);
+    let list = &joined[0..4 * n];
+    let t = Turn {
+        op,
+        root: br,
+        mark: walks::IN_A,
+    };
+    match walks::side_walk(
+        list,
+        an,
+        bn,
+        numbers,
+        t,
+        path,
+        0,
+        first,
+        second,
+        nodes,
+        0,
+        ar,
+    ) {
+        Walked::Refused(k) => Merged::Refused(k),
+        Walked::Done(root, m) => listed(lists::list_used(list, planes, nodes, m), m, root),
+    }
+}
+
+// The merge of two sound solids, put out into tables of zeros.
+fn merge_sound(
+    op: u8,
+    ap: &[i64],
+    an: &[u16],
+    ar: u16,
+    bp: &[i64],
+    bn: &[u16],
+    br: u16,
+    planes: &mut [i64],
+    nodes: &mut [u16],
+    path: &mut [i64],
+) -> Merged
+    requires { ⌜ SoundIn op (now ap) (now an) ar (now bp) (now bn) br (now planes) (now nodes) (now path) ⌝ }
+    ensures { λ r. ⌜ SoundTold op (now (ap .entry)) (now (an .entry)) ar (now (bp .entry)) (now (bn .entry)) br (now (planes .entry)) (now (planes .exit)) (now (nodes .entry)) (now (nodes .exit)) r ⌝ }
+{
+    let mut joined = [0i64; 512];
+    let mut numbers = [0u16; 128];
+    let mut first = [0i64; 675];
+    let mut second = [0i64; 675];
+    merge_with(
+        op,
+        ap,
+        an,
+        ar,
+        bp,
+        bn,
+        br,
+        planes,
+        nodes,
+        path,
+        &mut joined,
+        &mut numbers,
+        &mut first,
+        &mut second,
+    )
+}
+
+// ---- what is refused first
+
+// Whether an operation is known: union, intersection, A minus B.
+pub fn known(op: u8) -> bool
+    ensures { λ r. ⌜ r ≡ is-known op ⌝ }
+{
+    1 <= op && op <= 3
+}
+
+// The merge of two solids, put out into tables of zeros, or the first refusal: the work table, the operation, A, B, and then 8 and 9.
+fn merge_judged(
+    op: u8,
+    ap: &[i64],
+    an: &[u16],
+    ar: u16,
+    bp: &[i64],
+    bn: &[u16],
+    br: u16,
+    planes: &mut [i64],
+    nodes: &mut [u16],
+    work: &mut [i64],
+) -> Merged
+    requires { ⌜ JudgedIn (now planes) (now nodes) ⌝ }
+    ensures { λ r. ⌜ JudgedTold (length (now (work .entry))) op (now (ap .entry)) (now (an .entry)) ar (now (bp .entry)) (now (bn .entry)) br (now (planes .entry)) (now (planes .exit)) (now (nodes .entry)) (now (nodes .exit)) r ⌝ }
+{
+    if work.len() < zeros::WORK {
+        return Merged::Refused(8);
+    }
+    if !known(op) {
+        return Merged::Refused(7);
+    }
+    match tables::judge(ap, an, ar, work) {
+        Judgement::Refused(k, _) => Merged::Refused(k),
+        Judgement::Sound(_) => match tables::judge(bp, bn, br, work) {
+            Judgement::Refused(k, _) => Merged::Refused(k),
+            Judgement::Sound(_) => merge_sound(op, ap, an, ar, bp, bn, br, planes, nodes, work),
+        },
+    }
+}
+
+// The merge of A and B by operation 1 union, 2 intersection, 3 A minus B: its planes and nodes, in the tables lent for them.
+// Refused with 8 if the work table is shorter than zeros::WORK, 7 if the operation is unknown, the number of A, the number of B, 8 if the
+// lent tables have too few rows or the tree over 1,000, and 9 if it uses over 64 planes. A refusal leaves all three tables zeros.
+pub fn merge(
+    op: u8,
+    ap: &[i64],
+    an: &[u16],
+    ar: u16,
+    bp: &[i64],
+    bn: &[u16],
+    br: u16,
+    planes: &mut [i64],
+    nodes: &mut [u16],
+    work: &mut [i64],
+) -> Merged
+    ensures { λ r. ⌜ MergeTold op (now (ap .entry)) (now (an .entry)) ar (now (bp .entry)) (now (bn .entry)) br (now (planes .entry)) (now (planes .exit)) (now (nodes .entry)) (now (nodes .exit)) (now (work .entry)) (now (work .exit)) r ⌝ }
+{
+    zeros::clear(planes);
+    zeros::clear_nodes(nodes);
+    let m = merge_judged(op, ap, an, ar, bp, bn, br, planes, nodes, work);
+    zeros::clear(work);
+    let Merged::Solid(s) = m else {
+        zeros::clear(planes);
+        zeros::clear_nodes(nodes);
+        return m;
+    };
+    Merged::Solid(s)
+}
