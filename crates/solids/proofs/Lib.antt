@@ -1,9 +1,9 @@
 mod Lines
-mod Tables
+pub mod Tables
 mod Planes
 mod Nodes
-mod Whole
-mod Told
+pub mod Whole
+pub mod Told
 mod TextLines
 mod Fitted
 mod Glue

@@ -28,7 +28,7 @@ use Rattle.solids.specs.declared.LinesRead as LinesRead
 use Rattle.solids.specs.declared.SolidRead as SolidRead
 use Rattle.solids.specs.Lines.{FinishIn, Finished, not-read, at-end, more}
 use Rattle.solids.specs.Reading.{RowsRead, RowsTold, whole-of, rooms, WholeSolid, SolidTold, verdict, judgement, Into, IntoTold, ReadTold}
-use Rattle.solids.proofs.Whole.{head-read, finish-read, finish-more, finish-refused}
+use Rattle.solids.proofs.Whole.{head-read, HeadTaken, head-taken, finish-read, finish-more, finish-refused}
 
 -- ---- a solid
 
@@ -49,11 +49,15 @@ module _ (a : Rooms) (l n m r : ℕ) {t : List ℕ} {from next : ℕ} (h : Reads
     plane-table = q .plane-table;
     node-table = q .node-table;
     inside = q .inside;
+    near = omega (arith, taken .few-planes, taken .few-nodes);
     reading = opened ∙ q .reading a ∙ ap (λ j. read (tables (q .planes) (q .entries) r) j (frames (drop after t))) line;
   }
     where
       line : l + 1 + n + m + 1 ≡ l + 2 + n + m
       line = omega arith
+
+      taken : HeadTaken a n m
+      taken = head-taken a n m r fine
 
   -- what the rows tell, told of the solid
   pub solid-told : (xs : List ℤ) (ns : List ℕ) (r : LinesRead.LinesRead) {x : SolidRead.SolidRead} → RowsTold t next (l + 1) counts xs ns r → x ≡ whole-of r counts (l + 2 + n + m) → SolidTold t from l a xs ns x

@@ -132,6 +132,7 @@ pub record WholeSolid (t : List ℕ) (from l : ℕ) (a : Rooms) (s : Solid) (xs 
   pub plane-table : xs ≡ filled (pos 0) (length xs) (plane-numbers is)
   pub node-table : ns ≡ filled 0 (length ns) (node-numbers is)
   pub inside : next ≤ length t
+  pub near : j ≤ l + 1066
   pub reading : read-solid a fresh l (frames (drop from t)) ≡ read is j (frames (drop next t))
 
 -- a solid whose lines were read, and the line that follows it

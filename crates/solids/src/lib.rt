@@ -4,7 +4,7 @@ mod writing;
 
 use frames::AfterEnd;
 use frames::Cursor;
-use reading::read_solid;
+pub use reading::read_solid;
 use tables::Judgement;
 use tables::Solid;
 use writing::put_solid;
@@ -39,7 +39,7 @@ pub enum Written {
 // ---- reading
 
 // A solid that was read, after which nothing may follow.
-fn finished(text: &[u8], r: SolidRead) -> Judgement
+pub fn finished(text: &[u8], r: SolidRead) -> Judgement
     requires { ⌜ FinishIn (now text) r ⌝ }
     ensures { λ j. ⌜ Finished (now (text .entry)) r j ⌝ }
 {
