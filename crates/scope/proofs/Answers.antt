@@ -3,11 +3,12 @@ use mathlib.Core.Path.{_≡_, refl}
 use mathlib.Core.Bool.{Bool, true, false, not}
 use mathlib.Core.List.{List, [], _∷_}
 use Prim.Native.Nat.{ℕ, zero, suc}
-use lib.Dec.{T, eqb}
+use lib.Dec.{T, leb, eqb}
 use lib.ListN.{replicate}
 use lib.IntN.{pos}
 use Rattle.whole.specs.Tests.{_and_}
 use Rattle.whole.specs.Gcd.{euclid, gcd}
+use Rattle.scope.specs.Limits.{most-work, stated}
 use Rattle.scope.specs.Planes.{Plane, Point, at, in-range, lead, common, fault, half-fault, coincident, before, equal, point-in-range}
 use Rattle.scope.specs.Solids.{IN, OUT, Tree, leaf, node, rows, code, post, insert, ascending, place, tables-of, marked, ON, reply}
 use Rattle.scope.specs.Cells.{intersection, box}
@@ -33,6 +34,11 @@ the-tables : T (same-numbers (filled 0 5 (7 ∷ 8 ∷ [])) (7 ∷ 8 ∷ 0 ∷ 0 
     and same-numbers (left 0 3 (λ (a : List ℕ). a) (refused 4)) (0 ∷ 0 ∷ 0 ∷ []))
 unfolding same-numbers
 the-tables = tt
+
+-- ---- the length stated for a work table is within its limit (N.8)
+
+stated-within : T (leb stated most-work)
+stated-within = tt
 
 -- ---- a short work table comes first
 
@@ -89,7 +95,7 @@ the-planes : T (eqb (number (plane-answer px)) 0 and eqb (number (plane-answer (
 unfolding euclid gcd common in-range lead fault plane-answer
 the-planes = tt
 
--- a chain of n planes x = 1, x = 2, ..
+-- a chain of n planes x = 0, x = -1, ..
 chain : ℕ → Tree
 chain zero = leaf OUT
 chain (suc n) = node (pl (pos 1) (pos 0) (pos 0) (pos n)) (leaf IN) (chain n)

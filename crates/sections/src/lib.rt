@@ -71,7 +71,7 @@ pub enum Lawful {
     No,
 }
 
-// Half-spaces of a section, and rows of its polygon: one for each half-space and each side of the box, and one more.
+// The most half-spaces of a section.
 pub const MOST_HALVES: usize = 128;
 
 // ---- the half-spaces of a table, in order
@@ -176,6 +176,8 @@ fn drawn(s: Plane, halves: &[i64], bounds: &mut [i64], work: &mut [i64]) -> Sect
 // The section of the half-spaces by the plane s: its bounds, a row of four numbers each.
 // Refused with 8 if the work table is shorter than zeros::WORK, 2 if the half-spaces are not rows of four numbers, 3 over 128 of them, 4 if the
 // plane or a half-space is out of range or has a zero normal, and 8, after Nothing, if the table of bounds has too few rows.
+// The table of bounds is left with the bounds and then zeros, and with zeros alone after Nothing and after a refusal; the work table with
+// zeros.
 pub fn section(s: Plane, halves: &[i64], bounds: &mut [i64], work: &mut [i64]) -> Sectioned
     ensures { λ r. ⌜ SectionTold s (now (halves .entry)) (now (bounds .entry)) (now (bounds .exit)) (now (work .entry)) (now (work .exit)) r ⌝ }
 {

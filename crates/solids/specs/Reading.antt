@@ -3,7 +3,10 @@
 --     Blank                       tables of zeros
 --     PlanesSoFar, NodesOver      i lines of planes, or of nodes, were taken
 --     PlanesIn, NodesIn, RowsIn   what the functions are given
+--     RowsRead, WholeSolid        the rows below a head were read, and a whole solid was
 --     PlanesTold, NodesTold, RowsTold, SolidTold   the answers, case by case
+--     verdict, judgement          the verdict on a text by the length of the work table, and as the code has it
+--     Into, IntoTold              a text read into tables of zeros
 --     ReadTold                    the public call
 use mathlib.Core.Path.{_≡_}
 use mathlib.Core.Bool.{cond}

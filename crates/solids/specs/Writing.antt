@@ -2,7 +2,7 @@
 --     PlanesFit, NodesFit      the numbers of each row fit their bytes
 --     plane-lines, node-lines  the lines of the first rows of a table
 --     Writes                   what `put_solid` is given
---     Sound, FittedTold        what `written` is given and tells
+--     Sound, FittedTold        what `put_text` is given and tells
 --     WriteTold                the public call
 use mathlib.Core.Path.{_≡_}
 use mathlib.Core.Bool.{cond}

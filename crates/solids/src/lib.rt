@@ -18,7 +18,8 @@ ghost use Rattle.solids.specs.Writing.{Sound, FittedTold, WriteTold};
 
 // ---- the answers
 
-// The cursor after the lines that were read, and how many trees their rows are; or the number and the line that refuse the text.
+// The cursor after the lines that were read, and how many trees the nodes read are, 0 after planes and after the end; or the number and the
+// line that refuse the text.
 pub enum LinesRead {
     At(Cursor, usize),
     Refused(u8, usize),

@@ -120,7 +120,7 @@ abbrev pub PlanesJudged : List ℤ → Solid → Judgement.Judgement → Type 0
 PlanesJudged xs s (Judgement.the-variants.Sound t) = PlanesFine xs s t
 PlanesJudged xs s (Judgement.the-variants.Refused k l) = PlaneRefused xs (s .planes) k l
 
--- i rows stand, and no more is in the work table than they say
+-- i rows stand, and the planes marked are those that they use
 pub record Standing (ns : List ℕ) (n i : ℕ) (w : List ℤ) (d : ℕ) : Type 0 where
   pub rows : work.runs ns n i ≡ some (work.stack w d)
   pub marks : (k : ℕ) → k < 64 → work.marked w k ≡ uses k (entries-to ns i)

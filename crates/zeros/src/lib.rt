@@ -1,4 +1,5 @@
-// Tables of zeros. Every call makes each table lent to it zero, the whole slice, before it writes an answer, and again after a refusal.
+// Tables of zeros. A call makes each table lent for its result zero, the whole slice, before it writes an answer, and again after a refusal
+// that may follow such writing. It leaves its work table zero. Operands are not written.
 ghost use mathlib.Core.Path.{_≡_};
 ghost use lib.IntN.{pos};
 ghost use lib.ListN.{length, replicate};

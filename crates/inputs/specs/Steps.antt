@@ -14,8 +14,8 @@ use Rattle.scope.specs.Judging.{fresh, read-solid, accepted, refusal, finish, M
 use Rattle.scope.specs.Answers.{operand-rooms}
 use Rattle.tables.specs.declared.Judgement as Judgement
 use Rattle.tables.specs.declared.Solid.{Solid}
-use Rattle.orders.specs.declared.OrderRead as OrderRead
-use Rattle.orders.specs.Orders.{OrderIn, HoldsSolid}
+use Rattle.inputs.specs.declared.OrderRead as OrderRead
+use Rattle.inputs.specs.Orders.{OrderIn, HoldsSolid}
 
 -- ---- the last solid, from `from` on, where line l is
 

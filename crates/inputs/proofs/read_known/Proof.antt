@@ -1,4 +1,4 @@
--- `orders::read_known` meets its contract: the operation is unknown, or A and then B decide (proofs/Input). Assumes nothing.
+-- `inputs::read_known` meets its contract: the operation is unknown, or A and then B decide (proofs/Input). Assumes nothing.
 use mathlib.Core.Path.{_≡_, subst}
 use mathlib.Core.Bool.{true}
 use mathlib.Core.Logic.{⊎-elim}
@@ -7,10 +7,10 @@ use borrow.Author.Tests.{ltb-true, ltb-false}
 use denote.Ref.{now}
 use Rattle.scope.specs.Judging.{known}
 use Rattle.solids.specs.Reading.{rooms, WholeSolid, SolidTold}
-use Rattle.orders.proofs.Input.{lent-rooms, none-is, over-is, known-is, unknown, first-refused, both-told}
+use Rattle.inputs.proofs.Input.{lent-rooms, none-is, over-is, known-is, unknown, first-refused, both-told}
 use borrow.Author.Needs.{needs}
-use Rattle.orders.proofs.read_known.Statement.{statement}
-use Rattle.orders.proofs.read_known.Tie as tie
+use Rattle.inputs.proofs.read_known.Statement.{statement}
+use Rattle.inputs.proofs.read_known.Tie as tie
 
 -- the operation is 1, 2 or 3
 is-known : (c : tie.Else2) → known (c .before .before .before .before .before .args .op) ≡ true

@@ -27,9 +27,9 @@ use Rattle.solids.specs.declared.SolidRead as SolidRead
 use Rattle.solids.specs.Lines.{Finished, not-read, at-end, more}
 use Rattle.solids.specs.Reading.{rooms, WholeSolid, SolidTold}
 use Rattle.solids.proofs.Whole.{finish-read, finish-more, finish-refused}
-use Rattle.orders.specs.declared.OrderRead as OrderRead
-use Rattle.orders.specs.Orders.{HoldsSolid, OrderTold}
-use Rattle.orders.specs.Steps.{LastTold, order-of, after-operation, KnownTold}
+use Rattle.inputs.specs.declared.OrderRead as OrderRead
+use Rattle.inputs.specs.Orders.{HoldsSolid, OrderTold}
+use Rattle.inputs.specs.Steps.{LastTold, order-of, after-operation, KnownTold}
 
 -- ---- a solid in tables with room for every operand
 

@@ -1,14 +1,14 @@
--- `orders::read_last` meets its contract: the work table is cleared, the solid read, and nothing follows (proofs/Input). Assumes nothing.
+-- `inputs::read_last` meets its contract: the work table is cleared, the solid read, and nothing follows (proofs/Input). Assumes nothing.
 use native.Mathlib.Omega.{arith}
 use lib.IntN.{pos}
 use denote.Ref.{now}
 use Rattle.solids.specs.Reading.{rooms}
 use Rattle.zeros.proofs.Fill.{cleared}
 use Rattle.solids.proofs.Told.{solid-inside}
-use Rattle.orders.proofs.Input.{lent-rooms, last-told}
+use Rattle.inputs.proofs.Input.{lent-rooms, last-told}
 use borrow.Author.Needs.{needs}
-use Rattle.orders.proofs.read_last.Statement.{statement}
-use Rattle.orders.proofs.read_last.Tie as tie
+use Rattle.inputs.proofs.read_last.Statement.{statement}
+use Rattle.inputs.proofs.read_last.Tie as tie
 
 clear-requires : tie.Need-clear-requires
 clear-requires c κs = search needs

@@ -5,8 +5,8 @@ use solids::SolidRead;
 use tables::Judgement;
 use tables::Solid;
 ghost use mathlib.Core.Path.{_≡_};
-ghost use Rattle.orders.specs.Orders.{OrderIn, OrderTold};
-ghost use Rattle.orders.specs.Steps.{LastIn, LastTold, order-of, after-operation, KnownIn, KnownTold};
+ghost use Rattle.inputs.specs.Orders.{OrderIn, OrderTold};
+ghost use Rattle.inputs.specs.Steps.{LastIn, LastTold, order-of, after-operation, KnownIn, KnownTold};
 
 // The operation and the counts of the two solids, whose rows stand in the tables; or the number and the line that refuse the text.
 pub enum OrderRead {

@@ -1,12 +1,12 @@
--- `orders::read_order` meets its contract: the text is too long, the operation is missing, or what follows it decides (proofs/Input). Assumes nothing.
+-- `inputs::read_order` meets its contract: the text is too long, the operation is missing, or what follows it decides (proofs/Input). Assumes nothing.
 use mathlib.Core.Path.{subst}
 use denote.Ref.{now}
 use Rattle.scope.specs.Text.{operation}
 use Rattle.frames.specs.Promises.{Reads, OperationTold}
-use Rattle.orders.proofs.Input.{text-long, no-operation, order-told}
+use Rattle.inputs.proofs.Input.{text-long, no-operation, order-told}
 use borrow.Author.Needs.{needs}
-use Rattle.orders.proofs.read_order.Statement.{statement}
-use Rattle.orders.proofs.read_order.Tie as tie
+use Rattle.inputs.proofs.read_order.Statement.{statement}
+use Rattle.inputs.proofs.read_order.Tie as tie
 
 -- the operation is read
 read-op : (c : tie.After-op) → Reads (now (c .before .before .before .before .before .before .before .args .text)) 0 (operation (c .op .given .0 .0)) 5 (c .op .given .0 .1 .0 .at)

@@ -1,9 +1,9 @@
--- `orders::ordered` meets its contract. Assumes nothing.
+-- `inputs::ordered` meets its contract. Assumes nothing.
 use mathlib.Core.Path.{sym, ap}
-use Rattle.orders.specs.Steps.{order-of}
+use Rattle.inputs.specs.Steps.{order-of}
 use borrow.Author.Needs.{needs}
-use Rattle.orders.proofs.ordered.Statement.{statement}
-use Rattle.orders.proofs.ordered.Tie as tie
+use Rattle.inputs.proofs.ordered.Statement.{statement}
+use Rattle.inputs.proofs.ordered.Tie as tie
 
 enum-known-b : tie.Need-enum-known-b
 enum-known-b c = search needs

@@ -12,7 +12,7 @@ use Rattle.scope.specs.Judging.{order, order-refused, judge-merge}
 use Rattle.scope.specs.Answers.{plane-numbers, node-numbers, filled, operand-rooms}
 use Rattle.tables.specs.declared.Solid.{Solid}
 use Rattle.solids.specs.Reading.{Blank, solid-of}
-use Rattle.orders.specs.declared.OrderRead as OrderRead
+use Rattle.inputs.specs.declared.OrderRead as OrderRead
 
 -- tables of 64 plane rows and 1,000 node rows, all zeros, and a work table of zeros
 pub record OrderIn (ap : List ℤ) (an : List ℕ) (bp : List ℤ) (bn : List ℕ) (w : List ℤ) : Type 0 where

@@ -1,0 +1,2 @@
+pub mod TextMerge
+pub mod Printed
