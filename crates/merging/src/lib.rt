@@ -75,7 +75,7 @@ fn merge_with(
         second,
         nodes,
         0,
-        ar,
+        ar, // from A's root
     ) {
         Walked::Refused(k) => Merged::Refused(k),
         Walked::Done(root, m) => listed(lists::list_used(list, planes, nodes, m), m, root),
@@ -182,7 +182,7 @@ pub fn merge(
     let m = merge_judged(op, ap, an, ar, bp, bn, br, planes, nodes, work);
     zeros::clear(work);
     let Merged::Solid(s) = m else {
-        zeros::clear(planes);
+        zeros::clear(planes); // of what a refusal left
         zeros::clear_nodes(nodes);
         return m;
     };

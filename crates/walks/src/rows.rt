@@ -87,15 +87,15 @@ pub fn close(out: &mut [u16], next: usize, n: u16, f: u16, b: u16) -> Walked
 
 // The marks of the three operations, four each: of IN and IN, IN and OUT, OUT and IN, OUT and OUT.
 const OPERATIONS: [u16; 12] = [
+    65535, // union
     65535,
     65535,
-    65535,
     65534,
-    65535,
-    65534,
+    65535, // intersection
     65534,
     65534,
     65534,
+    65534, // A minus B
     65535,
     65534,
     65534,
