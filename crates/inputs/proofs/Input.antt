@@ -19,17 +19,18 @@ use Rattle.scope.specs.Limits.{most-text}
 use Rattle.scope.specs.Text.{operation, frames}
 use Rattle.scope.specs.Judging.{Rooms, fresh, read, read-solid, finish, order-refused, second, first, known, with-operation, opening, judge-merge}
 use Rattle.scope.specs.Answers.{operand-rooms}
-use Rattle.frames.specs.Promises.{Reads, Refuses, IsOperation}
+use Rattle.frames.specs.Promises.{Reads, OperationTold}
+use Rattle.frames.specs.declared.OperationRead as OperationRead
 use Rattle.frames.specs.Follows.{operation-refuses}
 use Rattle.tables.specs.declared.Judgement as Judgement
 use Rattle.tables.specs.declared.Solid.{Solid}
 use Rattle.solids.specs.declared.SolidRead as SolidRead
-use Rattle.solids.specs.Lines.{Finished, not-read, at-end, more}
+use Rattle.solids.specs.Lines.{Finished, not-read as was-not-read, at-end, more}
 use Rattle.solids.specs.Reading.{rooms, WholeSolid, SolidTold}
 use Rattle.solids.proofs.Whole.{finish-read, finish-more, finish-refused}
 use Rattle.inputs.specs.declared.OrderRead as OrderRead
 use Rattle.inputs.specs.Orders.{HoldsSolid, OrderTold}
-use Rattle.inputs.specs.Steps.{LastTold, order-of, after-operation, KnownTold}
+use Rattle.inputs.specs.Steps.{LastTold, not-read, not-operation, order-of, after-operation, KnownTold}
 
 -- ---- a solid in tables with room for every operand
 
@@ -45,7 +46,7 @@ pub last-told : (t : List ℕ) (from l : ℕ) {a : Rooms} (xs : List ℤ) (ns : 
 last-told t from l xs ns {r} ea f h = by f (subst (λ a. SolidTold t from l a xs ns r) ea h)
   where
     by : {r : SolidRead.SolidRead} {j : Judgement.Judgement} → Finished t r j → SolidTold t from l operand-rooms xs ns r → LastTold t from l xs ns j
-    by not-read h = finish-refused h
+    by was-not-read h = finish-refused h
     by (at-end e) h = record { is = h .is; held = solid-held h; sound = finish-read (h .reading) e }
     by (more e) h = finish-more (h .reading) e
 
@@ -76,8 +77,8 @@ module _ (t : List ℕ) (from op : ℕ) where
     by-first = ap (λ b. with-operation operand-rooms b op (frames (drop from t))) e
 
     -- A is refused
-    pub first-refused : (ps : List ℤ) (ns : List ℕ) {r : SolidRead.SolidRead} {k l : ℕ} → r ≡ SolidRead.the-variants.Refused k l → SolidTold t from 2 a ps ns r → after-operation t from op ≡ order-refused k l
-    first-refused ps ns {k = k} {l = l} f h = by-first ∙ ap (first operand-rooms op) (subst (λ a. SolidTold t from 2 a ps ns (SolidRead.the-variants.Refused k l)) ea (subst (SolidTold t from 2 a ps ns) f h))
+    pub first-refused : (ps : List ℤ) (ns : List ℕ) (bp : List ℤ) (bn : List ℕ) {z : SolidRead.SolidRead} {k l : ℕ} → z ≡ SolidRead.the-variants.Refused k l → SolidTold t from 2 a ps ns z → {r : OrderRead.OrderRead} → r ≡ not-read z → KnownTold (after-operation t from op) ps ns bp bn r
+    first-refused ps ns bp bn {k = k} {l = l} f h g = rw (g ∙ ap not-read f) (by-first ∙ ap (first operand-rooms op) (subst (λ a. SolidTold t from 2 a ps ns (SolidRead.the-variants.Refused k l)) ea (subst (SolidTold t from 2 a ps ns) f h)))
 
     -- A is read, then B
     module _ {s : Solid} {ps : List ℤ} {ns : List ℕ} {next l : ℕ} (q : WholeSolid t from 2 a s ps ns next l) (bp : List ℤ) (bn : List ℕ) where
@@ -103,8 +104,8 @@ module _ (t : List ℕ) where
     unfolding judge-merge
     by-opening = ap (λ b. cond b (opening operand-rooms (frames t)) (order-refused 3 0)) (le-leb (length t) most-text short)
 
-    pub no-operation : {k : ℕ} → Refuses IsOperation (frames (drop 0 t)) k → judge-merge operand-rooms t ≡ order-refused k 1
-    no-operation h = by-opening ∙ operation-refuses operand-rooms (frames t) h
+    pub no-operation : (ps : List ℤ) (ns : List ℕ) (bp : List ℤ) (bn : List ℕ) {z : OperationRead.OperationRead} {k : ℕ} → z ≡ OperationRead.the-variants.Refused k → OperationTold t 0 z → {r : OrderRead.OrderRead} → r ≡ not-operation z → OrderTold t ps ns bp bn r
+    no-operation ps ns bp bn e h f = rw (f ∙ ap not-operation e) (by-opening ∙ operation-refuses operand-rooms (frames t) (subst (OperationTold t 0) e h))
 
     module _ {op next : ℕ} (h : Reads t 0 (operation op) 5 next) where
       opened : judge-merge operand-rooms t ≡ after-operation t next op

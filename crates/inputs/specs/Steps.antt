@@ -1,5 +1,6 @@
 -- What the steps of reading an order promise.
 --     LastIn, LastTold     a solid after which nothing may follow
+--     not-read, not-operation   the refusals of A and of the operation's line
 --     order-of             the answer, from the counts of A and the judgement of B
 --     after-operation      judging what stands below an operation
 --     KnownIn, KnownTold   the operation and the two solids
@@ -14,6 +15,8 @@ use Rattle.scope.specs.Judging.{fresh, read-solid, accepted, refusal, finish, M
 use Rattle.scope.specs.Answers.{operand-rooms}
 use Rattle.tables.specs.declared.Judgement as Judgement
 use Rattle.tables.specs.declared.Solid.{Solid}
+use Rattle.frames.specs.declared.OperationRead as OperationRead
+use Rattle.solids.specs.declared.SolidRead as SolidRead
 use Rattle.inputs.specs.declared.OrderRead as OrderRead
 use Rattle.inputs.specs.Orders.{OrderIn, HoldsSolid}
 
@@ -39,6 +42,15 @@ LastTold t from l xs ns (Judgement.the-variants.Sound s) = LastRead t from l s x
 LastTold t from l xs ns (Judgement.the-variants.Refused k j) = finish (read-solid operand-rooms fresh l (frames (drop from t))) ≡ refusal k j
 
 -- ---- operation, A and B
+
+-- the number of a refusal; an answer that is none has no number, and 0 is told
+abbrev pub not-read : SolidRead.SolidRead → OrderRead.OrderRead
+not-read (SolidRead.the-variants.Refused k l) = OrderRead.the-variants.Refused k l
+not-read (SolidRead.the-variants.Read s c l) = OrderRead.the-variants.Refused 0 l
+
+abbrev pub not-operation : OperationRead.OperationRead → OrderRead.OrderRead
+not-operation (OperationRead.the-variants.Refused k) = OrderRead.the-variants.Refused k 1
+not-operation (OperationRead.the-variants.Operation op c) = OrderRead.the-variants.Refused 0 1
 
 abbrev pub order-of : ℕ → Solid → Judgement.Judgement → OrderRead.OrderRead
 order-of op s (Judgement.the-variants.Sound u) = OrderRead.the-variants.Order op s u

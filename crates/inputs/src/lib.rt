@@ -6,7 +6,7 @@ use tables::Judgement;
 use tables::Solid;
 ghost use mathlib.Core.Path.{_≡_};
 ghost use Rattle.inputs.specs.Orders.{OrderIn, OrderTold};
-ghost use Rattle.inputs.specs.Steps.{LastIn, LastTold, order-of, after-operation, KnownIn, KnownTold};
+ghost use Rattle.inputs.specs.Steps.{LastIn, LastTold, not-read, not-operation, order-of, after-operation, KnownIn, KnownTold};
 
 // The operation and the counts of the two solids, whose rows stand in the tables; or the number and the line that refuse the text.
 pub enum OrderRead {
@@ -29,6 +29,26 @@ fn read_last(
     zeros::clear(work);
     let r = solids::read_solid(text, c, l, planes, nodes, work);
     solids::finished(text, r)
+}
+
+// The refusal of A, told of the order. A solid that is read has none: it is not asked for, and the number is 0.
+fn not_read(r: SolidRead) -> OrderRead
+    ensures { λ o. ⌜ o ≡ not-read r ⌝ }
+{
+    match r {
+        SolidRead::Refused(k, l) => OrderRead::Refused(k, l),
+        SolidRead::Read(_, _, l) => OrderRead::Refused(0, l),
+    }
+}
+
+// The refusal of the operation's line, told of the order. A line that is read has none: it is not asked for, and the number is 0.
+fn not_operation(r: OperationRead) -> OrderRead
+    ensures { λ o. ⌜ o ≡ not-operation r ⌝ }
+{
+    match r {
+        OperationRead::Refused(k) => OrderRead::Refused(k, 1),
+        OperationRead::Operation(_, _) => OrderRead::Refused(0, 1),
+    }
 }
 
 // The order of an operation and a solid A, when B was judged.
@@ -58,12 +78,11 @@ fn read_known(
     if op == 0 || 3 < op {
         return OrderRead::Refused(7, 1);
     }
-    match solids::read_solid(text, c, 2, a_planes, a_nodes, work) {
-        SolidRead::Refused(k, l) => OrderRead::Refused(k, l),
-        SolidRead::Read(a, next, l) => {
-            ordered(op, a, read_last(text, next, l, b_planes, b_nodes, work))
-        }
-    }
+    let r = solids::read_solid(text, c, 2, a_planes, a_nodes, work);
+    let SolidRead::Read(a, next, l) = r else {
+        return not_read(r);
+    };
+    ordered(op, a, read_last(text, next, l, b_planes, b_nodes, work))
 }
 
 // The order of a text, read into tables of zeros that have room for every operand.
@@ -81,10 +100,9 @@ pub fn read_order(
     if Solid::MOST_TEXT < text.len() {
         return OrderRead::Refused(3, 0);
     }
-    match frames::operation_at(text, Cursor { at: 0 }) {
-        OperationRead::Refused(k) => OrderRead::Refused(k, 1),
-        OperationRead::Operation(op, next) => {
-            read_known(text, op, next, a_planes, a_nodes, b_planes, b_nodes, work)
-        }
-    }
+    let r = frames::operation_at(text, Cursor { at: 0 });
+    let OperationRead::Operation(op, next) = r else {
+        return not_operation(r);
+    };
+    read_known(text, op, next, a_planes, a_nodes, b_planes, b_nodes, work)
 }

@@ -3,7 +3,7 @@
 --     NextIn, Sooner               which plane comes next
 --     TakeIn, TakeTold             one plane more
 --     marked, mark                 the table of marks: 1 for a plane that is used
---     MarkIn .. RanksTold          marking, ranking, putting, and numbering by ranks
+--     MarkIn and below             marking, ranking, putting, and numbering by ranks
 use mathlib.Core.Path.{_≡_}
 use mathlib.Core.Bool.{Bool, true, false}
 use mathlib.Core.List.{List, _++_}

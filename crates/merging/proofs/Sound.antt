@@ -42,7 +42,7 @@ use Rattle.walks.specs.Putting.{Room, rows-flat, Emitted}
 use Rattle.walks.specs.Walks.{SideIn, Did}
 use Rattle.walks.proofs.Emits.{Got, got, lost, rows-flat-length}
 use Rattle.merging.specs.declared.Merged as Merged-as
-use Rattle.merging.specs.Promises.{rooms, merged-of, listed-as, SoundIn, LentIn, Held, Outcome}
+use Rattle.merging.specs.Promises.{rooms, merged-of, listed-as, SoundIn, LentIn, Held, Outcome, not-walked}
 use Rattle.merging.proofs.Trees.{list-flat, Numbered, stands-solid}
 
 -- ---- the plane lists
@@ -206,8 +206,8 @@ module _ {pa : List ℤ} {na : List ℕ} {ra : ℕ} {pb : List ℤ} {nb : List �
 
 -- ---- a walk that has no room
 
-pub outcome-refused : (planes₀ : List ℤ) {planes₁ : List ℤ} {nodes nodes′ : List ℕ} {J : List Plane} {s : Tree} {z : answer.Walked} {k : ℕ} → z ≡ answer.the-variants.Refused k → Emitted J nodes nodes′ 0 s z → Outcome (tree-answer (rooms planes₀ nodes) s) planes₁ nodes′ (Merged-as.the-variants.Refused k)
-outcome-refused planes₀ {planes₁} {nodes} {nodes′} {J} {s} {z} {k} e h = record { told = ap Merged-as.the-variants.Refused k-is ∙ ap merged-of (sym no); held = λ a f. let q : refused 8 ≡ given a = sym no ∙ f in differ (cc) }
+pub outcome-refused : (planes₀ : List ℤ) {planes₁ : List ℤ} {nodes nodes′ : List ℕ} {J : List Plane} {s : Tree} {z : answer.Walked} {k : ℕ} → z ≡ answer.the-variants.Refused k → Emitted J nodes nodes′ 0 s z → {r : Merged-as.Merged} → r ≡ not-walked z → Outcome (tree-answer (rooms planes₀ nodes) s) planes₁ nodes′ r
+outcome-refused planes₀ {planes₁} {nodes} {nodes′} {J} {s} {z} {k} e h f = rw (f ∙ ap not-walked e) (record { told = ap Merged-as.the-variants.Refused k-is ∙ ap merged-of (sym no); held = λ a f. let q : refused 8 ≡ given a = sym no ∙ f in differ (cc) })
   where
     k-is : k ≡ 8
     k-is = let d : answer.the-variants.Refused k ≡ answer.the-variants.Refused 8 = sym e ∙ h .over (lost e h) in cc

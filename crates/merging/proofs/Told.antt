@@ -24,7 +24,7 @@ use Rattle.tables.specs.declared.Solid.{Solid}
 use Rattle.tables.specs.Promises.{judgement, Judges}
 use Rattle.tables.proofs.Points as points
 use Rattle.merging.specs.declared.Merged as Merged-as
-use Rattle.merging.specs.Promises.{rooms, merged-of, MergeTold, Outcome, SoundIn, SoundTold, JudgedIn, JudgedTold}
+use Rattle.merging.specs.Promises.{rooms, merged-of, MergeTold, Outcome, SoundIn, SoundTold, JudgedIn, JudgedTold, not-sound}
 
 -- ---- the operation
 
@@ -76,12 +76,12 @@ module _ {work op : ℕ} {pa : List ℤ} {na : List ℕ} {ra : ℕ} {pb : List �
   pub not-known : {t : Bool} → stated ≤ work → t ≡ known op → not t ≡ true → JudgedTold work op pa na ra pb nb rb xs xs′ ns ns′ (Merged-as.the-variants.Refused 7)
   not-known w e f = record { answer = refused 7; exact = enough-work (enough work w) (no-operation (is-not-known op e f)); outcome = nothing-held 7 }
 
-  pub a-not : {t : Bool} {w₀ w₁ : List ℤ} {i : Judgement.Judgement} {k l : ℕ} → stated ≤ work → t ≡ known op → not t ≡ false → length w₀ ≡ work → Judges pa na ra w₀ w₁ i → i ≡ Judgement.the-variants.Refused k l → JudgedTold work op pa na ra pb nb rb xs xs′ ns ns′ (Merged-as.the-variants.Refused k)
-  a-not {k = k} w eo to lw a e = record { answer = refused k; exact = enough-work (enough work w) (a-refused (is-known op eo to) (judge-refused a (omega (arith, lw, w)) e)); outcome = nothing-held k }
+  pub a-not : {t : Bool} {w₀ w₁ : List ℤ} {i : Judgement.Judgement} {k l : ℕ} → stated ≤ work → t ≡ known op → not t ≡ false → length w₀ ≡ work → Judges pa na ra w₀ w₁ i → i ≡ Judgement.the-variants.Refused k l → {r : Merged-as.Merged} → r ≡ not-sound i → JudgedTold work op pa na ra pb nb rb xs xs′ ns ns′ r
+  a-not {k = k} w eo to lw a e f = rw (f ∙ ap not-sound e) (record { answer = refused k; exact = enough-work (enough work w) (a-refused (is-known op eo to) (judge-refused a (omega (arith, lw, w)) e)); outcome = nothing-held k })
 
   module _ {t : Bool} (w : stated ≤ work) (eo : t ≡ known op) (to : not t ≡ false) {w₀ w₁ : List ℤ} {i : Judgement.Judgement} (a : Judges pa na ra w₀ w₁ i) {s : Solid} (ea : i ≡ Judgement.the-variants.Sound s) {w₂ w₃ : List ℤ} {j : Judgement.Judgement} (lv : length w₂ ≡ work) (b : Judges pb nb rb w₂ w₃ j) where
-    pub b-not : {k l : ℕ} → j ≡ Judgement.the-variants.Refused k l → JudgedTold work op pa na ra pb nb rb xs xs′ ns ns′ (Merged-as.the-variants.Refused k)
-    b-not {k} e = record { answer = refused k; exact = enough-work (enough work w) (b-refused (points.judged-sound a ea .tree) (is-known op eo to) (points.judged-sound a ea .accepts) (judge-refused b (omega (arith, lv, w)) e)); outcome = nothing-held k }
+    pub b-not : {k l : ℕ} → j ≡ Judgement.the-variants.Refused k l → {r : Merged-as.Merged} → r ≡ not-sound j → JudgedTold work op pa na ra pb nb rb xs xs′ ns ns′ r
+    b-not {k} e f = rw (f ∙ ap not-sound e) (record { answer = refused k; exact = enough-work (enough work w) (b-refused (points.judged-sound a ea .tree) (is-known op eo to) (points.judged-sound a ea .accepts) (judge-refused b (omega (arith, lv, w)) e)); outcome = nothing-held k })
 
     pub both-sound : {u : Solid} {r : Merged-as.Merged} → j ≡ Judgement.the-variants.Sound u → SoundTold op pa na ra pb nb rb xs xs′ ns ns′ r → JudgedTold work op pa na ra pb nb rb xs xs′ ns ns′ r
     both-sound eb f =

@@ -1,7 +1,7 @@
 -- What the merge promises, in document 01's words.
 --     rooms              the rows lent for the result
 --     merged-of          an answer of document 01 as the code's
---     Left               an answer, and what stands in the tables after it
+--     listed-as, not-walked, not-sound   what a listing, a walk and a judge say, told of the merge
 --     MergeTold          the public call: the one answer that the definitions give, the result tables and the work table whole
 --     SoundIn, LentIn, Outcome, SoundTold, JudgedIn, JudgedTold   the same on the way
 use mathlib.Core.Path.{_≡_}
@@ -16,6 +16,8 @@ use Rattle.scope.specs.Judging.{Rooms}
 use Rattle.scope.specs.Answers.{Answer, given, refused, plane-numbers, node-numbers, filled, left, tree-answer, MergeAnswer}
 use Rattle.theory.specs.Text.Lent.{lent}
 use Rattle.tables.specs.Promises.{SolidOf}
+use Rattle.tables.specs.declared.Judgement as Judgement
+use Rattle.walks.specs.declared.Walked as Walked-as
 use Rattle.lists.specs.declared.Listed as Listed
 use Rattle.merging.specs.declared.Merged as Merged-as
 
@@ -31,6 +33,15 @@ merged-of (refused k) = Merged-as.the-variants.Refused k
 abbrev pub listed-as : Listed.Listed → ℕ → ℕ → Merged-as.Merged
 listed-as (Listed.the-variants.Refused k) m r = Merged-as.the-variants.Refused k
 listed-as (Listed.the-variants.Planes n) m r = Merged-as.the-variants.Solid (record { planes = n; nodes = m; root = r })
+
+-- the number of a refusal; an answer that is none has no number, and 0 is told
+abbrev pub not-walked : Walked-as.Walked → Merged-as.Merged
+not-walked (Walked-as.the-variants.Refused k) = Merged-as.the-variants.Refused k
+not-walked (Walked-as.the-variants.Done e m) = Merged-as.the-variants.Refused 0
+
+abbrev pub not-sound : Judgement.Judgement → Merged-as.Merged
+not-sound (Judgement.the-variants.Refused k l) = Merged-as.the-variants.Refused k
+not-sound (Judgement.the-variants.Sound s) = Merged-as.the-variants.Refused 0
 
 -- ---- the public call
 

@@ -7,10 +7,9 @@ use tables::Solid;
 use walks::Turn;
 use walks::Walked;
 ghost use mathlib.Core.Path.{_≡_};
-ghost use Prim.Native.Nat.{_≤_};
 ghost use lib.ListN.{length};
 ghost use Rattle.scope.specs.Judging.{known as is-known};
-ghost use Rattle.merging.specs.Promises.{listed-as, SoundIn, LentIn, SoundTold, JudgedIn, JudgedTold, MergeTold};
+ghost use Rattle.merging.specs.Promises.{listed-as, not-walked, not-sound, SoundIn, LentIn, SoundTold, JudgedIn, JudgedTold, MergeTold};
 
 // ---- the answers
 
@@ -18,6 +17,26 @@ ghost use Rattle.merging.specs.Promises.{listed-as, SoundIn, LentIn, Sou
 pub enum Merged {
     Solid(Solid),
     Refused(u8),
+}
+
+// The refusal of a walk, told of the merge. A walk that is done has none: it is not asked for, and the number is 0.
+fn not_walked(w: Walked) -> Merged
+    ensures { λ r. ⌜ r ≡ not-walked w ⌝ }
+{
+    match w {
+        Walked::Refused(k) => Merged::Refused(k),
+        Walked::Done(_, _) => Merged::Refused(0),
+    }
+}
+
+// The refusal of a solid, told of the merge. A solid that is sound has none: it is not asked for, and the number is 0.
+fn not_sound(j: Judgement) -> Merged
+    ensures { λ r. ⌜ r ≡ not-sound j ⌝ }
+{
+    match j {
+        Judgement::Refused(k, _) => Merged::Refused(k),
+        Judgement::Sound(_) => Merged::Refused(0),
+    }
 }
 
 // ---- two solids
@@ -63,7 +82,7 @@ fn merge_with(
         root: br,
         mark: walks::IN_A,
     };
-    match walks::side_walk(
+    let w = walks::side_walk(
         list,
         an,
         bn,
@@ -76,10 +95,11 @@ fn merge_with(
         nodes,
         0,
         ar, // from A's root
-    ) {
-        Walked::Refused(k) => Merged::Refused(k),
-        Walked::Done(root, m) => listed(lists::list_used(list, planes, nodes, m), m, root),
-    }
+    );
+    let Walked::Done(root, m) = w else {
+        return not_walked(w);
+    };
+    listed(lists::list_used(list, planes, nodes, m), m, root)
 }
 
 // The merge of two sound solids, put out into tables of zeros.
@@ -98,8 +118,8 @@ fn merge_sound(
     requires { ⌜ SoundIn op (now ap) (now an) ar (now bp) (now bn) br (now planes) (now nodes) (now path) ⌝ }
     ensures { λ r. ⌜ SoundTold op (now (ap .entry)) (now (an .entry)) ar (now (bp .entry)) (now (bn .entry)) br (now (planes .entry)) (now (planes .exit)) (now (nodes .entry)) (now (nodes .exit)) r ⌝ }
 {
-    let mut joined = [0i64; 512];
-    let mut numbers = [0u16; 128];
+    let mut joined = [0i64; 2 * 4 * Solid::MOST_PLANES];
+    let mut numbers = [0u16; 2 * Solid::MOST_PLANES];
     let mut first = [0i64; 675];
     let mut second = [0i64; 675];
     merge_with(
@@ -123,7 +143,7 @@ fn merge_sound(
 // ---- what is refused first
 
 // Whether an operation is known: union, intersection, A minus B.
-pub fn known(op: u8) -> bool
+fn known(op: u8) -> bool
     ensures { λ r. ⌜ r ≡ is-known op ⌝ }
 {
     1 <= op && op <= 3
@@ -151,13 +171,15 @@ fn merge_judged(
     if !known(op) {
         return Merged::Refused(7);
     }
-    match tables::judge(ap, an, ar, work) {
-        Judgement::Refused(k, _) => Merged::Refused(k),
-        Judgement::Sound(_) => match tables::judge(bp, bn, br, work) {
-            Judgement::Refused(k, _) => Merged::Refused(k),
-            Judgement::Sound(_) => merge_sound(op, ap, an, ar, bp, bn, br, planes, nodes, work),
-        },
-    }
+    let a = tables::judge(ap, an, ar, work);
+    let Judgement::Sound(_) = a else {
+        return not_sound(a);
+    };
+    let b = tables::judge(bp, bn, br, work);
+    let Judgement::Sound(_) = b else {
+        return not_sound(b);
+    };
+    merge_sound(op, ap, an, ar, bp, bn, br, planes, nodes, work)
 }
 
 // The merge of A and B by operation 1 union, 2 intersection, 3 A minus B: its planes and nodes, in the tables lent for them.
@@ -177,7 +199,7 @@ pub fn merge(
 ) -> Merged
     ensures { λ r. ⌜ MergeTold op (now (ap .entry)) (now (an .entry)) ar (now (bp .entry)) (now (bn .entry)) br (now (planes .entry)) (now (planes .exit)) (now (nodes .entry)) (now (nodes .exit)) (now (work .entry)) (now (work .exit)) r ⌝ }
 {
-    zeros::clear(planes);
+    zeros::clear(planes); // of what was lent
     zeros::clear_nodes(nodes);
     let m = merge_judged(op, ap, an, ar, bp, bn, br, planes, nodes, work);
     zeros::clear(work);

@@ -1,5 +1,5 @@
 -- A solid's lines together: head, planes, nodes, end; and what may follow.
---     rows-read, rows-no-plane, rows-no-node, rows-no-end   the rows below a head
+--     rows-no-node, rows-end                                the rows below a head
 --     head-missing, head-refused, head-read                 the head
 --     HeadTaken, head-taken                                 counts within the limits and the rows lent
 --     finish-read, finish-more                              what follows the end

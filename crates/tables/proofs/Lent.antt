@@ -1,7 +1,7 @@
 -- Lent tables, judged as if written out and read: what is left to judge after each row, and the verdict at the first row that falls.
 --     head-stop, head-go             the counts
 --     planes-stop, planes-left, planes-go   a plane that falls, numbers left over, all planes taken
---     nodes-stop, nodes-go, close    a row that falls, all rows taken, and the line after them
+--     nodes-begin, nodes-stop, close a row that falls, and the line after all rows
 use mathlib.Core.Path.{_≡_, refl, sym, ap, _∙_}
 use mathlib.Core.Bool.{Bool, true, false, cond}
 use mathlib.Core.List.{List, [], _∷_}

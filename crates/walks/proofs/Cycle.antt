@@ -2,8 +2,8 @@
 --     node-row, node-deep              the row, and room for one more half-space on the path
 --     Pushed, side-in, side-kept, side-emits    a side: what its walk is given, what it leaves of the path, and the rows that it put out
 --     node-front, node-back, node-closed        the node's walk, from the answers of its sides
---     descend-in, cut-in, end-in, below-in      what the calls of a side's walk are given
---     side-cut, side-mark, side-b               the side's walk, from the answers of these
+--     step-in, cut-in, code-in, end-in, below-in    what the calls of a side's walk are given
+--     side-code, side-mark, side-b                  the side's walk, from the answers of these
 use mathlib.Core.Path.{_≡_, refl, sym, ap, subst, _∙_}
 use mathlib.Core.Bool.{Bool, true, false}
 use mathlib.Core.List.{List, [], _∷_}
@@ -39,7 +39,7 @@ use Rattle.walks.specs.declared.Walked.the-variants.{Done, Refused}
 use Rattle.walks.specs.Standing.{rows-of, offset, list, plane-number, RowIs, Stands}
 use Rattle.walks.specs.Putting.{Room, Closed, Emitted}
 use Rattle.walks.specs.Marks.{turn-code, EndIn, EndsAs, in-b, alone, asks, EndIs}
-use Rattle.walks.specs.Walks.{In, Ends, WalkedIn, Ground, StandsIn, Here, SideIn, NodeIn, DescendIn, DescendTold, Did}
+use Rattle.walks.specs.Walks.{In, Ends, WalkedIn, Ground, StandsIn, Here, SideIn, NodeIn, StepIn, ToCode, Leads, StepTold, Did}
 use Rattle.walks.proofs.RowsRead.{offset-b, in-b as in-b-rows}
 use Rattle.walks.proofs.Emits.{room?, room-same, got, mark-done, closed, front-lost, back-lost}
 use Rattle.walks.proofs.Ways.{RowAt, as-row, as-mark, code-small, BothSides, walk-cut, second-alone}
@@ -234,81 +234,68 @@ module _ {xs : List ℤ} {numbers a b : List ℕ} {t : Turn} {path₀ : List ℤ
 -- ---- a side
 
 module _ {xs : List ℤ} {numbers a b : List ℕ} {t : Turn} {path : List ℤ} {depth : ℕ} {first second : List ℤ} {out : List ℕ} {next c : ℕ} (h : SideIn xs numbers a b t path depth first second out next c) where
-  pub descend-in : DescendIn xs numbers a b (t .mark) path depth first second c
-  descend-in = record { ground = h .ground; cell = h .here .cell; on = h .here .on; tree = h .here .tree; stands = h .here .stands }
-
   -- the tables of a section are as long as they were
   ground-in : {u v : List ℤ} → length u ≡ length first → length v ≡ length second → Ground xs path u v
   ground-in eu ev = record { lawful = h .ground .lawful; few = h .ground .few; path-room = h .ground .path-room; first-room = omega (arith, eu, h .ground .first-room); second-room = omega (arith, ev, h .ground .second-room) }
 
-  told-cut : {y : Reached.Reached} {r : ℕ} {x : Meeting} → y ≡ Reached.the-variants.Cut r x → DescendTold xs numbers a b (t .mark) path depth c y → DescendTold xs numbers a b (t .mark) path depth c (Reached.the-variants.Cut r x)
-  told-cut e d = subst (DescendTold xs numbers a b (t .mark) path depth c) e d
+  -- at a row
+  module _ (low : c < 65534) where
+    pub step-in : StepIn xs numbers a b (t .mark) path depth first second c
+    step-in = record { ground = h .ground; cell = h .here .cell; on = h .here .on; tree = h .here .tree; stands = h .here .stands; row = low }
 
-  told-mark : {y : Reached.Reached} {m : ℕ} → y ≡ Reached.the-variants.Mark m → DescendTold xs numbers a b (t .mark) path depth c y → DescendTold xs numbers a b (t .mark) path depth c (Reached.the-variants.Mark m)
-  told-mark e d = subst (DescendTold xs numbers a b (t .mark) path depth c) e d
+    module _ {y : Reached.Reached} (d : StepTold xs numbers a b (t .mark) path depth c y) where
+      pub cut-in : {x : Meeting} → y ≡ Reached.the-variants.Cut x → {u v : List ℤ} → length u ≡ length first → length v ≡ length second → NodeIn xs numbers a b t path depth u v out next c x
+      cut-in e eu ev =
+          let i = h .here in
+          record { side = record { ground = ground-in eu ev; here = i; room = h .room }; row = low; witness = subst (Leads xs numbers a b (t .mark) c (i .cell) (i .tree)) e (d .leads (i .cell) (i .tree) (i .on) (i .stands)) }
 
-  module _ {y : Reached.Reached} {r : ℕ} {x : Meeting} (e : y ≡ Reached.the-variants.Cut r x) (d : DescendTold xs numbers a b (t .mark) path depth c y) where
-    pub cut-lower : (r ≤ c) × (c < 65534)
-    cut-lower = told-cut e d .lower
+      module _ {e : ℕ} (f : y ≡ Reached.the-variants.Code e) where
+        leads : (cell : List Plane) (w : Tree) → OnPath (In xs) path depth cell → StandsIn xs numbers a b (t .mark) c w → ToCode xs numbers a b (t .mark) cell w e
+        leads cell w on st = subst (Leads xs numbers a b (t .mark) c cell w) f (d .leads cell w on st)
 
-    pub cut-in : {u v : List ℤ} → length u ≡ length first → length v ≡ length second → NodeIn xs numbers a b t path depth u v out next r x
-    cut-in eu ev =
-        let i = h .here in
-        let q = told-cut e d .leads (i .cell) (i .tree) (i .on) (i .stands) in
-        let low : r < 65534 = omega (arith, cut-lower .0, cut-lower .1) in
-        record {
-          side = record { ground = ground-in eu ev; here = record { operation = i .operation; op-is = i .op-is; turn = i .turn; turn-is = i .turn-is; tree = node (q .plane) (q .front) (q .back); stands = q .stands; second = i .second; second-stands = i .second-stands; cell = i .cell; on = i .on }; room = h .room };
-          row = low;
-          witness = subst (λ p. Witness p (i .cell) (meeting x)) (same-plane (as-row low (q .stands)) ∙ sym (as-row low (q .stands) .row .plane)) (q .witness);
+        pub code-in : {u v : List ℤ} → length u ≡ length first → length v ≡ length second → SideIn xs numbers a b t path depth u v out next e
+        code-in eu ev =
+            let i = h .here in
+            let q = leads (i .cell) (i .tree) (i .on) (i .stands) in
+            record {
+              ground = ground-in eu ev;
+              here = record { operation = i .operation; op-is = i .op-is; turn = i .turn; turn-is = i .turn-is; tree = q .tree; stands = q .stands; second = i .second; second-stands = i .second-stands; cell = i .cell; on = i .on };
+              room = h .room;
+            }
+
+        pub side-code : {path′ : List ℤ} {out′ : List ℕ} {z : Answer} → Did xs numbers a b t path path′ depth out out′ next e z → Did xs numbers a b t path path′ depth out out′ next c z
+        side-code k = record {
+          kept = k .kept;
+          placed = k .placed;
+          emitted = λ o j w B S cell eo ej st sb on W. let q = leads cell w on st in k .emitted o j (q .tree) B S cell eo ej (q .stands) sb on (q .walk o B j S W);
         }
-      where
-        same-plane : {ns : List ℕ} {o : ℕ} {p : Plane} {f g : Tree} (k : RowAt xs numbers ns o r (node p f g)) → p ≡ k .plane
-        same-plane {p = p} k = ap top (k .is)
-          where
-            top : Tree → Plane
-            top (leaf m) = p
-            top (node q f g) = q
 
-    pub side-cut : {path′ : List ℤ} {out′ : List ℕ} {z : Answer} → Did xs numbers a b t path path′ depth out out′ next r z → Did xs numbers a b t path path′ depth out out′ next c z
-    side-cut k = record {
-      kept = k .kept;
-      placed = k .placed;
-      emitted = λ o j w B S cell eo ej st sb on W.
-          let q = told-cut e d .leads cell w on st in
-          k .emitted o j (node (q .plane) (q .front) (q .back)) B S cell eo ej (q .stands) sb on (q .walk .same o B j S W);
-    }
-
-  module _ {y : Reached.Reached} {m : ℕ} (e : y ≡ Reached.the-variants.Mark m) (d : DescendTold xs numbers a b (t .mark) path depth c y) where
-    high : 65534 ≤ m
-    high = told-mark e d .lower
-
-    pub end-in : EndIn (t .op) (t .mark) m
+  -- at a mark
+  module _ (high : 65534 ≤ c) where
+    pub end-in : EndIn (t .op) (t .mark) c
     end-in =
         let i = h .here in
-        let q = as-mark high (told-mark e d .leads (i .cell) (i .tree) (i .on) (i .stands) .stands) in
+        let q = as-mark high (i .stands) in
         record { operation = i .operation; turn = i .turn; met = q .met; op-is = i .op-is; turn-is = i .turn-is; met-is = q .code-is }
 
-    -- the walk of the tree is that of the mark
+    -- the walk of a leaf is the end of its mark
     record AtMark (o : Operation) (j : Option Mark) (B S : Tree) (cell : List Plane) : Type 0 where
       met : Mark
-      met-is : m ≡ number (mark met)
+      met-is : c ≡ number (mark met)
       ends : Ends (operate o) B j cell met S
 
-    at-mark : (o : Operation) (j : Option Mark) (w B S : Tree) (cell : List Plane) → StandsIn xs numbers a b (t .mark) c w → OnPath (In xs) path depth cell → WalkedIn o B j cell w S → AtMark o j B S cell
-    at-mark o j w B S cell st on W =
-        let l = told-mark e d .leads cell w on st in
-        let q = as-mark high (l .stands) in
-        record { met = q .met; met-is = q .code-is; ends = by (subst (λ u. WalkedIn o B j cell u S) (q .is) (l .walk .same o B j S W)) }
+    at-mark : (o : Operation) (j : Option Mark) (w B S : Tree) (cell : List Plane) → StandsIn xs numbers a b (t .mark) c w → WalkedIn o B j cell w S → AtMark o j B S cell
+    at-mark o j w B S cell st W = let q = as-mark high st in record { met = q .met; met-is = q .code-is; ends = by (subst (λ u. WalkedIn o B j cell u S) (q .is) W) }
       where
         by : {x : Mark} → WalkedIn o B j cell (leaf x) S → Ends (operate o) B j cell x S
         by (end l) = l
 
-    pub side-mark : {k : Ended} {v : ℕ} → k ≡ Ended.Mark v → EndIs (t .op) (t .mark) m k → Did xs numbers a b t path path depth out out next c (Done v next)
+    pub side-mark : {k : Ended} {v : ℕ} → k ≡ Ended.Mark v → EndIs (t .op) (t .mark) c k → Did xs numbers a b t path path depth out out next c (Done v next)
     side-mark {k} {v} f g = record {
       kept = λ i l. refl;
       placed = λ v′ n i. let j : n ≡ next = cc in subst (Room out) (sym j) (h .room);
       emitted = λ o j w B S cell eo ej st sb on W.
-          let q = at-mark o j w B S cell st on W in
+          let q = at-mark o j w B S cell st W in
           by o B cell (q .ends) (subst (EndsAs o j (q .met)) f (g o j (q .met) eo ej (q .met-is)));
     }
       where
@@ -317,11 +304,11 @@ module _ {xs : List ℤ} {numbers a b : List ℕ} {t : Turn} {path : List ℤ} {
         by o B cell ends (alone x y f) = subst (λ S. Emitted (list xs) out out next S (Done (number (mark y)) next)) (sym (second-alone f ends)) (mark-done (list xs) out next y (h .room))
 
     -- B is walked from its root
-    module _ {k : Ended} (f : k ≡ Ended.WalkB) (g : EndIs (t .op) (t .mark) m k) where
+    module _ {k : Ended} (f : k ≡ Ended.WalkB) (g : EndIs (t .op) (t .mark) c k) where
       abbrev below : Turn
-      below = record { op = t .op; root = t .root; mark = m }
+      below = record { op = t .op; root = t .root; mark = c }
 
-      asked : (o : Operation) (j : Option Mark) (x : Mark) → t .op ≡ operation-code o → t .mark ≡ turn-code j → m ≡ number (mark x) → j ≡ none
+      asked : (o : Operation) (j : Option Mark) (x : Mark) → t .op ≡ operation-code o → t .mark ≡ turn-code j → c ≡ number (mark x) → j ≡ none
       asked o j x eo ej ex = by (subst (EndsAs o j x) f (g o j x eo ej ex))
         where
           by : {j : Option Mark} → EndsAs o j x Ended.WalkB → j ≡ none
@@ -330,14 +317,14 @@ module _ {xs : List ℤ} {numbers a b : List ℕ} {t : Turn} {path : List ℤ} {
       pub in-a : t .mark ≡ 0
       in-a = let i = h .here in i .turn-is ∙ ap turn-code (asked (i .operation) (i .turn) (end-in .met) (i .op-is) (i .turn-is) (end-in .met-is))
 
-      below-stands : {B : Tree} → Stands xs numbers b 64 (t .root) B → StandsIn xs numbers a b m (t .root) B
-      below-stands {B} s = let n : m ≡ 0 → ⊥ = λ z. omega (arith, z, high) in subst (λ o. Stands xs numbers (rows-of m a b) o (t .root) B) (offset-b m n) (subst (λ l. Stands xs numbers l 64 (t .root) B) (in-b-rows m a b n) s)
+      below-stands : {B : Tree} → Stands xs numbers b 64 (t .root) B → StandsIn xs numbers a b c (t .root) B
+      below-stands {B} s = let n : c ≡ 0 → ⊥ = λ z. omega (arith, z, high) in subst (λ o. Stands xs numbers (rows-of c a b) o (t .root) B) (offset-b c n) (subst (λ l. Stands xs numbers l 64 (t .root) B) (in-b-rows c a b n) s)
 
-      pub below-in : {u v : List ℤ} → length u ≡ length first → length v ≡ length second → SideIn xs numbers a b below path depth u v out next (t .root)
-      below-in eu ev =
+      pub below-in : SideIn xs numbers a b below path depth first second out next (t .root)
+      below-in =
           let i = h .here in
           record {
-            ground = ground-in eu ev;
+            ground = h .ground;
             here = record { operation = i .operation; op-is = i .op-is; turn = some (end-in .met); turn-is = end-in .met-is; tree = i .second; stands = below-stands (i .second-stands); second = i .second; second-stands = i .second-stands; cell = i .cell; on = i .on };
             room = h .room;
           }
@@ -345,15 +332,12 @@ module _ {xs : List ℤ} {numbers a b : List ℕ} {t : Turn} {path : List ℤ} {
       pub root-low : t .root < 65534 → t .root < 1000
       root-low = code-small (h .here .second-stands)
 
-      pub mark-high : 65534 ≤ m
-      mark-high = high
-
       pub side-b : {path′ : List ℤ} {out′ : List ℕ} {z : Answer} → Did xs numbers a b below path path′ depth out out′ next (t .root) z → Did xs numbers a b t path path′ depth out out′ next c z
       side-b {path′} {out′} {z} k = record {
         kept = k .kept;
         placed = k .placed;
         emitted = λ o j w B S cell eo ej st sb on W.
-            let q = at-mark o j w B S cell st on W in
+            let q = at-mark o j w B S cell st W in
             k .emitted o (some (q .met)) B B S cell eo (q .met-is) (below-stands sb) sb on (b-walk o j B S cell (q .met) (asked o j (q .met) eo ej (q .met-is)) (q .ends));
       }
         where

@@ -1,6 +1,6 @@
 -- The table of the operations is right at each of its twelve entries, and what becomes of a mark.
 --     index-in, operated-is      the entry of an operation and two marks
---     end-in, end-first, end-second      what `operated` is given
+--     end-in, end-either                 what `operated` is given
 --     ended-b, ended-alone, ended-asks   in B; in A, where its mark decides alone, and where not
 use mathlib.Core.Path.{_≡_, refl, sym, ap, subst, _∙_}
 use mathlib.Core.List.{List, [], _∷_}

@@ -27,9 +27,6 @@ rank-below c r h = go (ltb c 65534) refl
     go true e = omega (arith, h (ltb-true c 65534 e))
     go false e = omega arith
 
-pub rank-over : (r c : ℕ) → r ≤ c → c < 65534 → r * 2 + 1 < rank c
-rank-over r c l h = omega (arith, l, rank-row c h)
-
 pub rank-under : (f c : ℕ) → c < 65534 → (f < 65534 → f < c) → rank f < rank c
 rank-under f c h k = omega (arith, rank-row c h, rank-below f c k)
 

@@ -3,9 +3,8 @@
 --     walk-cut, walk-fore, walk-aft the walk of a node whose plane cuts the cell, or misses it
 --     second-alone                  B where A's mark decides alone
 --     on-inside                     a cell on a path has a point
---     row-plane, plane-of-in        the plane of a row
---     step-in, step-cut, step-fore, step-aft       one step
---     descend-start, descend-next, descend-cut     a descent
+--     plane-of-in, field-in         the plane of a row, and its codes
+--     step-cut, step-fore, step-aft what comes of the class of a row's plane
 use mathlib.Core.Path.{_≡_, refl, sym, ap, subst, _∙_}
 use mathlib.Core.Bool.{Bool, true, false}
 use mathlib.Core.List.{List, _∷_}
@@ -13,6 +12,7 @@ use Prim.Native.Nat.{ℕ, _+_, _*_, _≤_, _<_}
 use native.Mathlib.Omega.{arith}
 use lib.IntN.{ℤ}
 use lib.ListN.{length, getD}
+use Rattle.whole.specs.Tests.{differ}
 use Rattle.whole.specs.Order.{pos-not-zero, neg-not-zero, lt-not-lt}
 use Rattle.scope.specs.Planes.{Plane, Point, flip, Lawful}
 use Rattle.scope.specs.Solids.{Mark, IN, OUT, Tree, leaf, node, mark, number}
@@ -21,17 +21,17 @@ use Rattle.theory.specs.Planes.Lawful.{lawful-nonzero}
 use Rattle.theory.specs.Cells.Box.{origin, box-origin}
 use Rattle.theory.specs.Cells.Sides.{half, half-front, half-back}
 use Rattle.theory.specs.Cells.Path.{kept-few}
-use Rattle.planes.specs.Values.{plane}
+use Rattle.planes.specs.Values.{plane, meeting}
 use Rattle.planes.specs.declared.Plane as struct
 use Rattle.planes.specs.declared.Meeting.{Meeting}
 use Rattle.tables.specs.Rows.{plane-at}
 use Rattle.cells.specs.declared.Classified.{Classified}
 use Rattle.cells.specs.declared.Classified.the-variants as Classified
-use Rattle.cells.specs.Paths.{OnPath, at-box, below, witness-at, Classes, is-cut, is-front, is-behind, Classified-in, ClassifyIn}
+use Rattle.cells.specs.Paths.{OnPath, at-box, below, witness-at, Witness, Classes, is-cut, is-front, is-behind, Classified-in, ClassifyIn}
 use Rattle.cells.proofs.Paths.{on-map, on-kept}
 use Rattle.walks.specs.declared.Reached as Reached
 use Rattle.walks.specs.Standing.{rows-of, offset, list, plane-number, FieldIn, RowIs, Stands, at-mark, at-row}
-use Rattle.walks.specs.Walks.{In, WalkedIn, StandsIn, PlaneOfIn, DescendIn, SameWalk, ToCode, ToCut, LeadsFrom, StepTold, DescendTold}
+use Rattle.walks.specs.Walks.{In, WalkedIn, StandsIn, PlaneOfIn, StepIn, ToCode, StepTold}
 use Rattle.walks.proofs.Marks.{mark-in}
 
 -- ---- what stands at a code
@@ -121,9 +121,9 @@ plane-of-in h = record { number-in = record { inside = h .inside; numbered = h .
 pub field-in : {xs : List ℤ} {numbers ns : List ℕ} {o r : ℕ} {p : Plane} → RowIs xs numbers ns o r p → (k : ℕ) → k < 3 → FieldIn ns r k
 field-in h k l = record { inside = h .inside; one-of-three = l }
 
-module _ {xs : List ℤ} {numbers a b : List ℕ} {m : ℕ} {path : List ℤ} {depth : ℕ} {first second : List ℤ} {r : ℕ} (h : DescendIn xs numbers a b m path depth first second r) (low : r < 65534) where
+module _ {xs : List ℤ} {numbers a b : List ℕ} {m : ℕ} {path : List ℤ} {depth : ℕ} {first second : List ℤ} {r : ℕ} (h : StepIn xs numbers a b m path depth first second r) where
   pub here-row : RowAt xs numbers (rows-of m a b) (offset m) r (h .tree)
-  here-row = as-row low (h .stands)
+  here-row = as-row (h .row) (h .stands)
 
   -- the plane that was read is the row's
   module _ {p : struct.Plane} (e : plane p ≡ plane-at xs (plane-number numbers (offset m) (rows-of m a b) r)) where
@@ -138,84 +138,32 @@ module _ {xs : List ℤ} {numbers a b : List ℕ} {m : ℕ} {path : List ℤ} {d
       second-room = h .ground .second-room;
     }
 
-    -- what the classes of the plane say of the tree's walk
-    class : (cell : List Plane) (t : Tree) → OnPath (In xs) path depth cell → (s : StandsIn xs numbers a b m r t) {k : Classified} → Classified-in (plane p) path depth k → Classes (as-row low s .plane) cell k
-    class cell t on s {k} f = subst (λ q. Classes q cell k) (e ∙ as-row low s .row .plane) (f cell (on-map (λ p q. q .lawful) on))
+    -- what the class says of the row's plane
+    class : {k l : Classified} → k ≡ l → Classified-in (plane p) path depth k → (cell : List Plane) → OnPath (In xs) path depth cell → Classes (plane-at xs (plane-number numbers (offset m) (rows-of m a b) r)) cell l
+    class {k} d f cell on = subst (Classes (plane-at xs (plane-number numbers (offset m) (rows-of m a b) r)) cell) d (subst (λ q. Classes q cell k) e (f cell (on-map (λ p q. q .lawful) on)))
 
-    pub step-cut : {k : Classified} (x : Meeting) → k ≡ Classified.Cut x → Classified-in (plane p) path depth k → StepTold xs numbers a b m path depth r (Reached.the-variants.Cut r x)
-    step-cut {k} x d f = record { falls = refl; leads = leads }
+    pub step-cut : {k : Classified} (x : Meeting) → k ≡ Classified.Cut x → Classified-in (plane p) path depth k → StepTold xs numbers a b m path depth r (Reached.the-variants.Cut x)
+    step-cut x d f = record { falls = λ e i. differ (cc); leads = λ cell t on s. by (class d f cell on) }
       where
-        leads : LeadsFrom xs numbers a b m path depth r (Reached.the-variants.Cut r x)
-        leads cell t on s = by (subst (Classes (q .plane) cell) d (class cell t on s f))
-          where
-            q : RowAt xs numbers (rows-of m a b) (offset m) r t
-            q = as-row low s
+        by : {q : Plane} {cell : List Plane} → Classes q cell (Classified.Cut x) → Witness q cell (meeting x)
+        by (is-cut w) = w
 
-            by : Classes (q .plane) cell (Classified.Cut x) → ToCut xs numbers a b m cell t r x
-            by (is-cut w) = record { plane = q .plane; front = q .front; back = q .back; stands = subst (StandsIn xs numbers a b m r) (q .is) s; witness = w; walk = record { same = λ o B k s w. subst (λ t. WalkedIn o B k cell t s) (q .is) w } }
+    -- the cell lies on one side of the plane, and the walk goes on at the code of that side
+    step-on : {g : ℕ} → (g < 65534 → g < r) → ((cell : List Plane) (t : Tree) → OnPath (In xs) path depth cell → StandsIn xs numbers a b m r t → ToCode xs numbers a b m cell t g) → StepTold xs numbers a b m path depth r (Reached.the-variants.Code g)
+    step-on {g} l f = record { falls = λ e i h. let j : e ≡ g = cc in omega (arith, j, l (subst (λ n. n < 65534) j h)); leads = f }
 
-    pub step-fore : {k : Classified} {g : ℕ} → k ≡ Classified.Front → Classified-in (plane p) path depth k → g ≡ getD (rows-of m a b) (3 * r + 1) 0 → StepTold xs numbers a b m path depth r (Reached.the-variants.Mark g)
-    step-fore {k} {g} d f i = record { falls = subst (λ g. g < 65534 → g < r) (sym i) (here-row .row .front-less); leads = leads }
+    pub step-fore : {k : Classified} {g : ℕ} → k ≡ Classified.Front → Classified-in (plane p) path depth k → g ≡ getD (rows-of m a b) (3 * r + 1) 0 → StepTold xs numbers a b m path depth r (Reached.the-variants.Code g)
+    step-fore {k} {g} d f i = step-on (subst (λ g. g < 65534 → g < r) (sym i) (here-row .row .front-less)) λ cell t on s.
+        let q = as-row (h .row) s in
+        record { tree = q .front; stands = subst (λ g. StandsIn xs numbers a b m g (q .front)) (sym i) (q .front-stands); walk = λ o B k S w. walk-fore (on-inside on .0) (on-inside on .1) (by (subst (λ u. Classes u cell Classified.Front) (q .row .plane) (class d f cell on))) (subst (λ t. WalkedIn o B k cell t S) (q .is) w) }
       where
-        leads : LeadsFrom xs numbers a b m path depth r (Reached.the-variants.Mark g)
-        leads cell t on s = by (subst (Classes (q .plane) cell) d (class cell t on s f))
-          where
-            q : RowAt xs numbers (rows-of m a b) (offset m) r t
-            q = as-row low s
+        by : {q : Plane} {cell : List Plane} → Classes q cell Classified.Front → AllFront q cell
+        by (is-front z) = z
 
-            by : Classes (q .plane) cell Classified.Front → ToCode xs numbers a b m cell t g
-            by (is-front z) = record { tree = q .front; stands = subst (λ g. StandsIn xs numbers a b m g (q .front)) (sym i) (q .front-stands); walk = record { same = λ o B k s w. walk-fore (on-inside on .0) (on-inside on .1) z (subst (λ t. WalkedIn o B k cell t s) (q .is) w) } }
-
-    pub step-aft : {k : Classified} {g : ℕ} → k ≡ Classified.Behind → Classified-in (plane p) path depth k → g ≡ getD (rows-of m a b) (3 * r + 2) 0 → StepTold xs numbers a b m path depth r (Reached.the-variants.Mark g)
-    step-aft {k} {g} d f i = record { falls = subst (λ g. g < 65534 → g < r) (sym i) (here-row .row .back-less); leads = leads }
+    pub step-aft : {k : Classified} {g : ℕ} → k ≡ Classified.Behind → Classified-in (plane p) path depth k → g ≡ getD (rows-of m a b) (3 * r + 2) 0 → StepTold xs numbers a b m path depth r (Reached.the-variants.Code g)
+    step-aft {k} {g} d f i = step-on (subst (λ g. g < 65534 → g < r) (sym i) (here-row .row .back-less)) λ cell t on s.
+        let q = as-row (h .row) s in
+        record { tree = q .back; stands = subst (λ g. StandsIn xs numbers a b m g (q .back)) (sym i) (q .back-stands); walk = λ o B k S w. walk-aft (on-inside on .0) (on-inside on .1) (by (subst (λ u. Classes u cell Classified.Behind) (q .row .plane) (class d f cell on))) (subst (λ t. WalkedIn o B k cell t S) (q .is) w) }
       where
-        leads : LeadsFrom xs numbers a b m path depth r (Reached.the-variants.Mark g)
-        leads cell t on s = by (subst (Classes (q .plane) cell) d (class cell t on s f))
-          where
-            q : RowAt xs numbers (rows-of m a b) (offset m) r t
-            q = as-row low s
-
-            by : Classes (q .plane) cell Classified.Behind → ToCode xs numbers a b m cell t g
-            by (is-behind z) = record { tree = q .back; stands = subst (λ g. StandsIn xs numbers a b m g (q .back)) (sym i) (q .back-stands); walk = record { same = λ o B k s w. walk-aft (on-inside on .0) (on-inside on .1) z (subst (λ t. WalkedIn o B k cell t s) (q .is) w) } }
-
--- ---- a descent
-
-same-walk : {cell : List Plane} {t u v : Tree} → SameWalk cell t u → SameWalk cell u v → SameWalk cell t v
-same-walk h k = record { same = λ o B l s w. k .same o B l s (h .same o B l s w) }
-
-module _ {xs : List ℤ} {numbers a b : List ℕ} {m : ℕ} {path : List ℤ} {depth : ℕ} where
-  pub descend-start : (c : ℕ) → LeadsFrom xs numbers a b m path depth c (Reached.the-variants.Mark c)
-  descend-start c cell t on s = record { tree = t; stands = s; walk = record { same = λ o B k s w. w } }
-
-  module _ {c e : ℕ} (h : LeadsFrom xs numbers a b m path depth c (Reached.the-variants.Mark e)) where
-    pub descend-here : {first second : List ℤ} → DescendIn xs numbers a b m path depth first second c → (u v : List ℤ) → length u ≡ length first → length v ≡ length second → DescendIn xs numbers a b m path depth u v e
-    descend-here i u v eu ev =
-        let q = h (i .cell) (i .tree) (i .on) (i .stands) in
-        record {
-          ground = record { lawful = i .ground .lawful; few = i .ground .few; path-room = i .ground .path-room; first-room = omega (arith, eu, i .ground .first-room); second-room = omega (arith, ev, i .ground .second-room) };
-          cell = i .cell;
-          on = i .on;
-          tree = q .tree;
-          stands = q .stands;
-        }
-
-    pub descend-next : {g : ℕ} → StepTold xs numbers a b m path depth e (Reached.the-variants.Mark g) → LeadsFrom xs numbers a b m path depth c (Reached.the-variants.Mark g)
-    descend-next k cell t on s =
-        let q = h cell t on s in
-        let n = k .leads cell (q .tree) on (q .stands) in
-        record { tree = n .tree; stands = n .stands; walk = same-walk (q .walk) (n .walk) }
-
-    pub descend-cut : {r : ℕ} {x : Meeting} → StepTold xs numbers a b m path depth e (Reached.the-variants.Cut r x) → LeadsFrom xs numbers a b m path depth c (Reached.the-variants.Cut r x)
-    descend-cut k cell t on s =
-        let q = h cell t on s in
-        let n = k .leads cell (q .tree) on (q .stands) in
-        record { plane = n .plane; front = n .front; back = n .back; stands = n .stands; witness = n .witness; walk = same-walk (q .walk) (n .walk) }
-
-    pub descend-ended : {z : Reached.Reached} {r : ℕ} {x : Meeting} → e < 65534 → (e < 65534 → (e ≤ c) × (c < 65534)) → z ≡ Reached.the-variants.Cut r x → StepTold xs numbers a b m path depth e z → DescendTold xs numbers a b m path depth c z
-    descend-ended {z} {r} {x} low l d k = subst (DescendTold xs numbers a b m path depth c) (sym d) (by (subst (StepTold xs numbers a b m path depth e) d k))
-      where
-        by : StepTold xs numbers a b m path depth e (Reached.the-variants.Cut r x) → DescendTold xs numbers a b m path depth c (Reached.the-variants.Cut r x)
-        by k = record { lower = (omega (arith, k .falls, l low .0), l low .1); leads = descend-cut k }
-
-pub stepped : {xs : List ℤ} {numbers a b : List ℕ} {m : ℕ} {path : List ℤ} {depth c : ℕ} {z : Reached.Reached} {e : ℕ} → z ≡ Reached.the-variants.Mark e → StepTold xs numbers a b m path depth c z → StepTold xs numbers a b m path depth c (Reached.the-variants.Mark e)
-stepped {xs} {numbers} {a} {b} {m} {path} {depth} {c} d k = subst (StepTold xs numbers a b m path depth c) d k
+        by : {q : Plane} {cell : List Plane} → Classes q cell Classified.Behind → AllBack q cell
+        by (is-behind z) = z

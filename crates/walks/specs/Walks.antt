@@ -4,7 +4,7 @@
 --     Ground               the tables that a walk reads, and its room
 --     Here                 where a walk is: in which operand, in which cell, at which tree
 --     SideIn, NodeIn       what a side's walk and a node's walk are given
---     DescendIn, StepIn, Leads, StepTold, DescendTold   a descent past the planes that miss the cell
+--     PlaneOfIn, StepIn, ToCode, Leads, StepTold        one row: its plane cuts the cell, or the walk goes on at a child
 --     Did                  what a walk does: the rows of the walked tree, put out
 use mathlib.Core.Path.{_≡_}
 use mathlib.Core.List.{List}
@@ -14,7 +14,7 @@ use lib.IntN.{ℤ, pos}
 use lib.ListN.{length, getD}
 use Rattle.whole.specs.Members.{_∈_}
 use Rattle.scope.specs.Planes.{Plane, Lawful}
-use Rattle.scope.specs.Solids.{Mark, Tree, leaf, node}
+use Rattle.scope.specs.Solids.{Mark, Tree, leaf}
 use Rattle.scope.specs.Cells.{Walked, join, Second, Operation, operate}
 use Rattle.scope.specs.Text.{operation-code}
 use Rattle.planes.specs.Values.{meeting}
@@ -78,65 +78,36 @@ pub record NodeIn (xs : List ℤ) (numbers a b : List ℕ) (t : Turn) (path : Li
   pub row : r < 65534
   pub witness : Witness (plane-at xs (plane-number numbers (offset (t .mark)) (rows-of (t .mark) a b) r)) (side .here .cell) (meeting x)
 
--- ---- past the planes that miss the cell
+-- ---- one row
 
 pub record PlaneOfIn (xs : List ℤ) (numbers ns : List ℕ) (o r : ℕ) : Type 0 where
   pub number-in : NumberIn ns numbers o r
   pub there : 4 * plane-number numbers o ns r + 3 < length xs
 
--- a cell, and a tree
-pub record DescendIn (xs : List ℤ) (numbers a b : List ℕ) (m : ℕ) (path : List ℤ) (depth : ℕ) (first second : List ℤ) (c : ℕ) : Type 0 where
+-- a row, in the cell of a path
+pub record StepIn (xs : List ℤ) (numbers a b : List ℕ) (m : ℕ) (path : List ℤ) (depth : ℕ) (first second : List ℤ) (r : ℕ) : Type 0 where
   pub ground : Ground xs path first second
   pub cell : List Plane
   pub on : OnPath (In xs) path depth cell
   pub tree : Tree
-  pub stands : StandsIn xs numbers a b m c tree
+  pub stands : StandsIn xs numbers a b m r tree
+  pub row : r < 65534
 
-abbrev pub StepIn : List ℤ → List ℕ → List ℕ → List ℕ → ℕ → List ℤ → ℕ → List ℤ → List ℤ → ℕ → Type 0
-StepIn xs numbers a b m path depth first second r = DescendIn xs numbers a b m path depth first second r × (r < 65534)
-
--- to walk the tree u in the cell is to walk the tree t
-pub record SameWalk (cell : List Plane) (t u : Tree) : Type 0 where
-  pub same : (o : Operation) (B : Tree) (k : Option Mark) (s : Tree) → WalkedIn o B k cell t s → WalkedIn o B k cell u s
-
--- the way leads to a code, or to a row whose plane cuts the cell
+-- a code at which the walk of the tree goes on: whatever the tree t becomes in the cell, the code's tree becomes
 pub record ToCode (xs : List ℤ) (numbers a b : List ℕ) (m : ℕ) (cell : List Plane) (t : Tree) (e : ℕ) : Type 0 where
   pub tree : Tree
   pub stands : StandsIn xs numbers a b m e tree
-  pub walk : SameWalk cell t tree
+  pub walk : (o : Operation) (B : Tree) (k : Option Mark) (s : Tree) → WalkedIn o B k cell t s → WalkedIn o B k cell tree s
 
-pub record ToCut (xs : List ℤ) (numbers a b : List ℕ) (m : ℕ) (cell : List Plane) (t : Tree) (r : ℕ) (x : Meeting) : Type 0 where
-  pub plane : Plane
-  pub front : Tree
-  pub back : Tree
-  pub stands : StandsIn xs numbers a b m r (node plane front back)
-  pub witness : Witness plane cell (meeting x)
-  pub walk : SameWalk cell t (node plane front back)
+-- C.2: the row's plane cuts the cell; or it misses it, and the walk goes on at a child
+abbrev pub Leads : List ℤ → List ℕ → List ℕ → List ℕ → ℕ → ℕ → List Plane → Tree → Reached.Reached → Type 0
+Leads xs numbers a b m r cell t (Reached.the-variants.Cut x) = Witness (plane-at xs (plane-number numbers (offset m) (rows-of m a b) r)) cell (meeting x)
+Leads xs numbers a b m r cell t (Reached.the-variants.Code e) = ToCode xs numbers a b m cell t e
 
-abbrev pub Leads : List ℤ → List ℕ → List ℕ → List ℕ → ℕ → List Plane → Tree → Reached.Reached → Type 0
-Leads xs numbers a b m cell t (Reached.the-variants.Mark e) = ToCode xs numbers a b m cell t e
-Leads xs numbers a b m cell t (Reached.the-variants.Cut r x) = ToCut xs numbers a b m cell t r x
-
-abbrev pub LeadsFrom : List ℤ → List ℕ → List ℕ → List ℕ → ℕ → List ℤ → ℕ → ℕ → Reached.Reached → Type 0
-LeadsFrom xs numbers a b m path depth c r = (cell : List Plane) (t : Tree) → OnPath (In xs) path depth cell → StandsIn xs numbers a b m c t → Leads xs numbers a b m cell t r
-
--- a step leads to an earlier row, a mark, or the row itself
-abbrev pub Falls : ℕ → Reached.Reached → Type 0
-Falls c (Reached.the-variants.Mark e) = e < 65534 → e < c
-Falls c (Reached.the-variants.Cut r x) = r ≡ c
-
-pub record StepTold (xs : List ℤ) (numbers a b : List ℕ) (m : ℕ) (path : List ℤ) (depth c : ℕ) (r : Reached.Reached) : Type 0 where
-  pub falls : Falls c r
-  pub leads : LeadsFrom xs numbers a b m path depth c r
-
--- a descent leads to a mark, or to a row that is none above the code
-abbrev pub Lower : ℕ → Reached.Reached → Type 0
-Lower c (Reached.the-variants.Mark e) = 65534 ≤ e
-Lower c (Reached.the-variants.Cut r x) = (r ≤ c) × (c < 65534)
-
-pub record DescendTold (xs : List ℤ) (numbers a b : List ℕ) (m : ℕ) (path : List ℤ) (depth c : ℕ) (r : Reached.Reached) : Type 0 where
-  pub lower : Lower c r
-  pub leads : LeadsFrom xs numbers a b m path depth c r
+-- a child is a mark or an earlier row
+pub record StepTold (xs : List ℤ) (numbers a b : List ℕ) (m : ℕ) (path : List ℤ) (depth r : ℕ) (z : Reached.Reached) : Type 0 where
+  pub falls : (e : ℕ) → z ≡ Reached.the-variants.Code e → e < 65534 → e < r
+  pub leads : (cell : List Plane) (t : Tree) → OnPath (In xs) path depth cell → StandsIn xs numbers a b m r t → Leads xs numbers a b m r cell t z
 
 -- ---- what is done
 

@@ -18,12 +18,11 @@ use rows::field;
 use rows::number_of;
 use tables::Solid;
 ghost use mathlib.Core.Path.{_≡_};
-ghost use Prim.Native.Nat.{_+_, _*_, _<_, _≤_};
-ghost use lib.ListN.{length, getD};
+ghost use Prim.Native.Nat.{_+_, _<_};
 ghost use Rattle.planes.specs.Values.{plane};
 ghost use Rattle.tables.specs.Rows.{plane-at};
 ghost use Rattle.walks.specs.Standing.{rows-of, offset, plane-number};
-ghost use Rattle.walks.specs.Walks.{PlaneOfIn, StepIn, StepTold, DescendIn, DescendTold, SideIn, NodeIn, Did};
+ghost use Rattle.walks.specs.Walks.{PlaneOfIn, StepIn, StepTold, SideIn, NodeIn, Did};
 
 // ---- the kinds, and the answers
 
@@ -46,10 +45,10 @@ pub struct Turn {
     pub mark: u16,
 }
 
-// Where the way past planes that miss a cell leads: to a code, or to a row whose plane cuts the cell at a point.
+// How a row's plane lies to a cell: it cuts it at a point, or it misses it and the walk goes on at the code of the cell's side.
 pub enum Reached {
-    Mark(u16),
-    Cut(u16, Meeting),
+    Cut(Meeting),
+    Code(u16),
 }
 
 // ---- rows
@@ -62,9 +61,7 @@ fn plane_of(planes: &[i64], a: &[u16], b: &[u16], numbers: &[u16], mark: u16, ro
     tables::row(planes, number_of(a, b, numbers, mark, row) as usize)
 }
 
-// ---- past the planes that miss the cell
-
-// One row: it is the place of a cut, or the way leads on to the code of the side that the cell lies on.
+// A row in the cell of the path: the place of a cut, or the code of the side that the cell lies on.
 fn step(
     planes: &[i64],
     a: &[u16],
@@ -80,44 +77,12 @@ fn step(
     requires { ⌜ StepIn (now planes) (now numbers) (now a) (now b) mark (now path) depth (now first) (now second) row ⌝ }
     ensures { λ r. ⌜ StepTold (now (planes .entry)) (now (numbers .entry)) (now (a .entry)) (now (b .entry)) mark (now (path .entry)) depth row r ⌝ }
 {
-    match classify(
-        plane_of(planes, a, b, numbers, mark, row),
-        path,
-        depth,
-        first,
-        second,
-    ) {
-        Classified::Cut(x) => Reached::Cut(row, x),
-        Classified::Front => Reached::Mark(field(a, b, mark, row, 1)),
-        Classified::Behind => Reached::Mark(field(a, b, mark, row, 2)),
+    let p = plane_of(planes, a, b, numbers, mark, row);
+    match classify(p, path, depth, first, second) {
+        Classified::Cut(x) => Reached::Cut(x),
+        Classified::Front => Reached::Code(field(a, b, mark, row, 1)),
+        Classified::Behind => Reached::Code(field(a, b, mark, row, 2)),
     }
-}
-
-// Where a code leads in the cell of the path: a mark, or the first row whose plane cuts the cell, and where it does.
-fn descend(
-    planes: &[i64],
-    a: &[u16],
-    b: &[u16],
-    numbers: &[u16],
-    mark: u16,
-    path: &[i64],
-    depth: usize,
-    first: &mut [i64],
-    second: &mut [i64],
-    code: u16,
-) -> Reached
-    requires { ⌜ DescendIn (now planes) (now numbers) (now a) (now b) mark (now path) depth (now first) (now second) code ⌝ }
-    ensures { λ r. ⌜ DescendTold (now (planes .entry)) (now (numbers .entry)) (now (a .entry)) (now (b .entry)) mark (now (path .entry)) depth code r ⌝ }
-{
-    let mut at = code;
-    while at < Solid::OUT {
-        let s = step(planes, a, b, numbers, mark, path, depth, first, second, at);
-        let Reached::Mark(next) = s else {
-            return s;
-        };
-        at = next;
-    }
-    Reached::Mark(at)
 }
 
 // ---- the walks
@@ -184,7 +149,8 @@ fn node_walk(
     close(out, n2, n, front, back)
 }
 
-// What a code becomes in the cell of the path.
+// What a code becomes in the cell of the path: a row is kept where its plane cuts the cell, else the walk goes on at a child, an earlier row;
+// at a leaf of A, B is walked.
 pub fn side_walk(
     planes: &[i64],
     a: &[u16],
@@ -202,58 +168,76 @@ pub fn side_walk(
     requires { ⌜ SideIn (now planes) (now numbers) (now a) (now b) t (now path) depth (now first) (now second) (now out) next code ⌝ }
     ensures { λ r. ⌜ Did (now (planes .entry)) (now (numbers .entry)) (now (a .entry)) (now (b .entry)) t (now (path .entry)) (now (path .exit)) depth (now (out .entry)) (now (out .exit)) next code r ⌝ }
 {
-    match descend(
-        planes,
-        a,
-        b,
-        numbers,
-        t.mark,
-        path,
-        depth,
-        first,
-        second,
-        code,
-    ) {
-        Reached::Cut(row, x) => {
-            node_walk(
-                planes,
-                a,
-                b,
-                numbers,
-                t,
-                path,
-                depth,
-                first,
-                second,
-                out,
-                next,
-                row,
-                x,
-            )
-        }
-        Reached::Mark(m) => match ended(t.op, t.mark, m) {
-            Ended::Mark(e) => Walked::Done(e, next),
-            Ended::WalkB => {
-                let below = Turn {
-                    op: t.op,
-                    root: t.root,
-                    mark: m,
-                };
-                side_walk(
+    if code < Solid::OUT {
+        return match step(
+            planes,
+            a,
+            b,
+            numbers,
+            t.mark,
+            path,
+            depth,
+            first,
+            second,
+            code,
+        ) {
+            Reached::Cut(x) => {
+                node_walk(
                     planes,
                     a,
                     b,
                     numbers,
-                    below,
+                    t,
                     path,
                     depth,
                     first,
                     second,
                     out,
                     next,
-                    t.root,
+                    code,
+                    x,
                 )
             }
-        },
+            Reached::Code(child) => {
+                side_walk(
+                    planes,
+                    a,
+                    b,
+                    numbers,
+                    t,
+                    path,
+                    depth,
+                    first,
+                    second,
+                    out,
+                    next,
+                    child,
+                )
+            }
+        };
+    }
+    match ended(t.op, t.mark, code) {
+        Ended::Mark(e) => Walked::Done(e, next),
+        Ended::WalkB => {
+            let below = Turn {
+                op: t.op,
+                root: t.root,
+                mark: code,
+            };
+            side_walk(
+                planes,
+                a,
+                b,
+                numbers,
+                below,
+                path,
+                depth,
+                first,
+                second,
+                out,
+                next,
+                t.root,
+            )
+        }
     }
 }

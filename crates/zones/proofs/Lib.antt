@@ -1,2 +1,1 @@
 pub mod TextMerge
-pub mod Printed

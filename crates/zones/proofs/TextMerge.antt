@@ -1,41 +1,39 @@
 -- From tables to text: the solids that stand in tables, their merge, and what is written.
 --     first, held-lent, held-room    the rows that tables hold, lent; they have room
 --     merged-right                   the merge's answer is that of the two solids
---     given-lawful                   a merged solid that is given is lawful
 --     merging-refused, merging-solid what comes of the merge
 --     with-refused, with-merged      what comes of the text
 --     text-short, text-told          the public call
 use mathlib.Core.Path.{_≡_, refl, sym, ap, subst, _∙_}
-use mathlib.Core.Bool.{Bool, true, false, cond}
-use mathlib.Core.List.{List, [], _∷_, _++_}
-use Prim.Native.Nat.{ℕ, _+_, _-_, _*_, _/_, _≤_, _<_}
+use mathlib.Core.Bool.{cond}
+use mathlib.Core.List.{List}
+use Prim.Native.Nat.{ℕ, _-_, _*_, _/_, _≤_, _<_}
 use native.Mathlib.Omega.{arith}
 use lib.Dec.{T, leb}
-use borrow.Author.Tests.{le-leb, lt-leb, leb-true}
+use borrow.Author.Tests.{le-leb, lt-leb}
 use lib.IntN.{ℤ, pos}
 use lib.ListN.{length, take, replicate, length-append, length-replicate}
 use lib.Seq.{take-append-seam}
-use Rattle.whole.specs.Tests.{_and_, and-true, differ}
-use Rattle.scope.specs.Limits.{stated, most-planes, most-nodes}
-use Rattle.scope.specs.Planes.{Plane, Lawful}
-use Rattle.scope.specs.Solids.{Tree, rows, planes, ascending, Tables, tables, tables-of, LawfulTree}
+use Rattle.whole.specs.Tests.{_and_, differ}
+use Rattle.scope.specs.Limits.{stated}
+use Rattle.scope.specs.Planes.{Lawful}
+use Rattle.scope.specs.Solids.{rows, planes, Tables, tables}
 use Rattle.scope.specs.Text.{text}
-use Rattle.scope.specs.Judging.{Rooms, Verdict, accepted, order, order-refused, judge-merge, judge-lent}
-use Rattle.scope.specs.Answers.{Answer, given, refused, plane-numbers, node-numbers, flat-planes, flat-nodes, filled, left, WithWork, short-work, enough-work, fits-rooms, tree-answer, MergeBy, no-operation, a-refused, b-refused, merged, write-answer, solid-then, operand-rooms, program-rooms}
-use Rattle.theory.specs.Answers.{Sound, solid-lawful}
-use Rattle.theory.specs.Theorems.{merge-lawful}
+use Rattle.scope.specs.Judging.{accepted, order, judge-lent}
+use Rattle.scope.specs.Answers.{Answer, given, refused, plane-numbers, node-numbers, flat-planes, flat-nodes, filled, left, WithWork, short-work, enough-work, MergeBy, merged, write-answer, solid-then, operand-rooms, program-rooms}
 use Rattle.theory.specs.Text.Filled.{planes-count, nodes-count}
 use Rattle.theory.specs.Text.Lent.{lent, lent-accepted}
 use Rattle.theory.specs.Text.MergeInput.{merge-read}
-use Rattle.theory.specs.Text.Trees.{LawfulTables, tables-lawful}
+use Rattle.theory.specs.Text.Trees.{LawfulTables}
 use Rattle.tables.specs.declared.Solid.{Solid}
 use Rattle.solids.specs.declared.Written as Written
-use Rattle.solids.specs.Reading.{solid-of}
 use Rattle.solids.specs.Writing.{wrote, itself, WriteTold}
 use Rattle.merging.specs.declared.Merged as Merged-as
 use Rattle.merging.specs.Promises.{rooms, merged-of, MergeTold}
-use Rattle.inputs.specs.Orders.{HoldsSolid, OrderHeld}
-use Rattle.zones.specs.Promises.{in-room, TextAnswer, unread, merged-text, MergeTextTold, Outcome, WithTold, Merging, TextTold}
+use Rattle.inputs.specs.declared.OrderRead as OrderRead
+use Rattle.inputs.specs.Orders.{HoldsSolid, OrderHeld, OrderTold}
+use Rattle.zones.specs.Follows.{given-lawful}
+use Rattle.zones.specs.Promises.{in-room, unread, merged-text, not-ordered, not-merged, MergeTextTold, WithTold, Merging, TextTold}
 
 -- ---- the rows that tables hold
 
@@ -68,29 +66,6 @@ module _ (s : Solid) (xs : List ℤ) (ns : List ℕ) where
       (λ i. judge-lent (lent (first (pos 0) (length xs) (4 * s .planes) (flat-planes ps) xs (h .planes) (planes-count ps ∙ ap (λ s. 4 * s .planes) (sym (h .counts))) i) (first 0 (length ns) (3 * s .nodes) (flat-nodes es) ns (h .nodes) (nodes-count es ∙ ap (λ s. 3 * s .nodes) (sym (h .counts))) i) (h .counts i .root)))
       ∙ lent-accepted ps es r l
 
--- ---- a merged solid that is given is lawful
-
-given-tree : (s : Rooms) (t : Tree) (c : Tables) → tree-answer s t ≡ given c → (tables-of t ≡ c) × (rows t ≤ most-nodes) × (length (ascending (planes t)) ≤ most-planes)
-given-tree s t c = by (fits-rooms s t) refl (leb (length (ascending (planes t))) most-planes) refl
-  where
-    by : (b : Bool) → fits-rooms s t ≡ b → (d : Bool) → leb (length (ascending (planes t))) most-planes ≡ d → cond b (cond d (given (tables-of t)) (refused 9)) (refused 8) ≡ given c → (tables-of t ≡ c) × (rows t ≤ most-nodes) × (length (ascending (planes t)) ≤ most-planes)
-    by false eb d ed e = differ (cc)
-    by true eb false ed e = differ (cc)
-    by true eb true ed e = (cc, leb-true (rows t) most-nodes (and-true (leb (rows t) most-nodes) (leb (rows t) (s .node-rows) and leb (length (ascending (planes t))) (s .plane-rows)) eb .0), leb-true (length (ascending (planes t))) most-planes ed)
-
-sound-of : {a : Tables} → LawfulTables a → Sound (accepted a)
-sound-of {a} l = record { lawful = λ c e. let d : a ≡ c = cc in subst LawfulTables d l }
-
-pub given-lawful : {s : Rooms} {o : ℕ} {a b c : Tables} {r : Answer Tables} → LawfulTables a → LawfulTables b → MergeBy s o (accepted a) (accepted b) r → r ≡ given c → LawfulTables c
-given-lawful la lb (no-operation n) e = differ (cc)
-given-lawful la lb (a-refused k f) e = differ (cc)
-given-lawful la lb (b-refused t k f g) e = differ (cc)
-given-lawful {s} la lb (merged x A B t eo ea eb w) e =
-    let lA = solid-lawful (sound-of la) ea in
-    let lB = solid-lawful (sound-of lb) eb in
-    let g = given-tree s t _ e in
-    subst LawfulTables (g .0) (tables-lawful t (record { each = merge-lawful x lA lB w; few-planes = g .2; few-rows = g .1 }))
-
 -- ---- the merge's answer
 
 module _ {op : ℕ} {s u : Solid} {pa : List ℤ} {na : List ℕ} {pb : List ℤ} {nb : List ℕ} {a b : Tables} (la : LawfulTables a) (ha : HoldsSolid a s pa na) (lb : LawfulTables b) (hb : HoldsSolid b u pb nb)
@@ -109,8 +84,8 @@ module _ {op : ℕ} {s u : Solid} {pa : List ℤ} {na : List ℕ} {pb : List ℤ
       by (short-work n) = absurd (n (subst T (sym (le-leb stated (length w) enough)) tt))
       by (enough-work t p) = p
 
-  pub merging-refused : {k : ℕ} {out out′ : List ℕ} → m ≡ Merged-as.the-variants.Refused k → out′ ≡ replicate (length out) 0 → Merging op a b out out′ (Written.the-variants.Refused k)
-  merging-refused {k} {out} {out′} e z = record { answer = h .answer; exact = merged-right; outcome = record { told = ap (λ x. wrote (in-room (length out) x)) (sym no); text = z ∙ ap (λ n. replicate {A = ℕ} n 0) {x = length out} {y = length out - 0} (omega arith) ∙ ap (λ x. left 0 (length out) itself (in-room (length out) x)) (sym no) } }
+  pub merging-refused : {k : ℕ} {out out′ : List ℕ} → m ≡ Merged-as.the-variants.Refused k → out′ ≡ replicate (length out) 0 → {r : Written.Written} → r ≡ not-merged m → Merging op a b out out′ r
+  merging-refused {k} {out} {out′} e z f = rw (f ∙ ap not-merged e) (record { answer = h .answer; exact = merged-right; outcome = record { told = ap (λ x. wrote (in-room (length out) x)) (sym no); text = z ∙ ap (λ n. replicate {A = ℕ} n 0) {x = length out} {y = length out - 0} (omega arith) ∙ ap (λ x. left 0 (length out) itself (in-room (length out) x)) (sym no) } })
     where
       by : (x : Answer Tables) → m ≡ merged-of x → x ≡ refused k
       by (given (tables ps es q)) f = let d : Merged-as.the-variants.Refused k ≡ merged-of (given (tables ps es q)) = sym e ∙ f in differ (cc)
@@ -152,8 +127,8 @@ module _ {op : ℕ} {s u : Solid} {pa : List ℤ} {na : List ℕ} {pb : List ℤ
 
 -- ---- the text
 
-pub with-refused : {t out out′ : List ℕ} {k l : ℕ} → judge-merge operand-rooms t ≡ order-refused k l → out′ ≡ replicate (length out) 0 → WithTold t out out′ (Written.the-variants.Refused k)
-with-refused {t} {out} {out′} {k} e z = record { answer = refused k; exact = unread e; outcome = record { told = refl; text = z ∙ ap (λ n. replicate {A = ℕ} n 0) {x = length out} {y = length out - 0} (omega arith) } }
+pub with-refused : {t : List ℕ} (ap : List ℤ) (an : List ℕ) (bp : List ℤ) (bn : List ℕ) {out out′ : List ℕ} {o : OrderRead.OrderRead} {k l : ℕ} → o ≡ OrderRead.the-variants.Refused k l → OrderTold t ap an bp bn o → out′ ≡ replicate (length out) 0 → {r : Written.Written} → r ≡ not-ordered o → WithTold t out out′ r
+with-refused {t} pa na pb nb {out} {out′} {k = k} e h z f = rw (f ∙ ap not-ordered e) (record { answer = refused k; exact = unread (subst (OrderTold t pa na pb nb) e h); outcome = record { told = refl; text = z ∙ ap (λ n. replicate {A = ℕ} n 0) {x = length out} {y = length out - 0} (omega arith) } })
 
 module _ {t : List ℕ} {pa : List ℤ} {na : List ℕ} {pb : List ℤ} {nb : List ℕ} {op : ℕ} {s u : Solid} (h : OrderHeld t pa na pb nb op s u) where
   pub order-lawful : LawfulTables (h .first) × LawfulTables (h .second)

@@ -2,6 +2,7 @@
 --     in-room              the text of an answer's tables, if it has room, else 8
 --     TextAnswer           the answer: operation, A, B, then the merge, then room
 --     MergeTextTold        the public call: that answer and no other, the text and the work table whole
+--     not-ordered, not-merged   what an order and a merge refuse, told of the text
 --     TablesIn, PutIn, MergedIn, TextTold, WithTold   the same on the way
 use mathlib.Core.Path.{_≡_}
 use mathlib.Core.Bool.{cond}
@@ -19,6 +20,8 @@ use Rattle.theory.specs.Text.Trees.{LawfulTables}
 use Rattle.tables.specs.declared.Solid.{Solid}
 use Rattle.solids.specs.declared.Written as Written
 use Rattle.solids.specs.Writing.{wrote, itself}
+use Rattle.merging.specs.declared.Merged as Merged-as
+use Rattle.inputs.specs.declared.OrderRead as OrderRead
 use Rattle.inputs.specs.Orders.{HoldsSolid}
 
 abbrev pub in-room : ℕ → Answer Tables → Answer (List ℕ)
@@ -40,6 +43,15 @@ pub record MergeTextTold (t : List ℕ) (out out′ : List ℕ) (w w′ : List �
   pub work : w′ ≡ replicate (length w) (pos 0)
 
 -- ---- on the way
+
+-- the number of a refusal; an answer that is none has no number, and 0 is told
+abbrev pub not-ordered : OrderRead.OrderRead → Written.Written
+not-ordered (OrderRead.the-variants.Refused k l) = Written.the-variants.Refused k
+not-ordered (OrderRead.the-variants.Order o a b) = Written.the-variants.Refused 0
+
+abbrev pub not-merged : Merged-as.Merged → Written.Written
+not-merged (Merged-as.the-variants.Refused k) = Written.the-variants.Refused k
+not-merged (Merged-as.the-variants.Solid s) = Written.the-variants.Refused 0
 
 -- an answer, and what stands in the text
 pub record Outcome (answer : Answer (List ℕ)) (out out′ : List ℕ) (r : Written.Written) : Type 0 where

@@ -17,8 +17,8 @@ is-known : (c : tie.Else2) → known (c .before .before .before .before .before 
 is-known c = known-is (c .before .if1 .left) (ltb-false 3 (c .before .before .before .before .before .args .op) (c .if2 .left))
 
 -- A is read
-read-a : (c : tie.After-a) → WholeSolid (now (c .before .before .before .before .before .before .before .before .before .before .before .before .before .before .before .args .text)) (c .before .before .before .before .before .before .before .before .before .before .before .before .before .before .before .args .c .at) 2 (rooms (now (c .before .before .before .before .before .before .before .before .before .before .before .before .before .before .before .args .a-planes)) (now (c .before .before .before .before .before .before .before .before .before .before .before .before .before .before .before .args .a-nodes))) (c .a .given .0 .0) (c .before .before .before .before .before .before .read-solid .last .1 .1 .1 .0) (c .before .before .before .before .before .before .read-solid .last .1 .1 .1 .1 .0) (c .a .given .0 .1 .0 .at) (c .a .given .0 .1 .1 .0)
-read-a c = let a = c .before .before .before .before .before .before .before .before .before .before .before .before .before .before .before .args in subst (SolidTold (now (a .text)) (a .c .at) 2 (rooms (now (a .a-planes)) (now (a .a-nodes))) (c .before .before .before .before .before .before .read-solid .last .1 .1 .1 .0) (c .before .before .before .before .before .before .read-solid .last .1 .1 .1 .1 .0)) (c .a .given .1) (c .before .before .before .before .before .before .read-solid .ensures)
+read-a : (c : tie.After-r) → WholeSolid (now (c .before .before .before .before .before .before .before .before .before .before .before .before .before .before .before .args .text)) (c .before .before .before .before .before .before .before .before .before .before .before .before .before .before .before .args .c .at) 2 (rooms (now (c .before .before .before .before .before .before .before .before .before .before .before .before .before .before .before .args .a-planes)) (now (c .before .before .before .before .before .before .before .before .before .before .before .before .before .before .before .args .a-nodes))) (c .r .given .0 .0) (c .before .before .before .before .before .before .read-solid .last .1 .1 .1 .0) (c .before .before .before .before .before .before .read-solid .last .1 .1 .1 .1 .0) (c .r .given .0 .1 .0 .at) (c .r .given .0 .1 .1 .0)
+read-a c = let a = c .before .before .before .before .before .before .before .before .before .before .before .before .before .before .before .args in subst (SolidTold (now (a .text)) (a .c .at) 2 (rooms (now (a .a-planes)) (now (a .a-nodes))) (c .before .before .before .before .before .before .read-solid .last .1 .1 .1 .0) (c .before .before .before .before .before .before .read-solid .last .1 .1 .1 .1 .0)) (c .r .given .1) (c .before .before .before .before .before .before .read-solid .ensures)
 
 returns : tie.Need-returns
 returns c = let a = c .before .before .before .before .args in unknown (now (a .text)) (a .c .at) (a .op) (⊎-elim (λ w. none-is (w .taken)) (λ w. over-is (ltb-true 3 (a .op) (w .1 .taken))) (c .if1 .came))
@@ -26,11 +26,29 @@ returns c = let a = c .before .before .before .before .args in unknown (now (a .
 read-solid-requires : tie.Need-read-solid-requires
 read-solid-requires c κs = search needs
 
-enum-known-k : tie.Need-enum-known-k
-enum-known-k c = search needs
+enum-known-r : tie.Need-enum-known-r
+enum-known-r c = search needs
 
-enum-known-a : tie.Need-enum-known-a
-enum-known-a c = search needs
+enum-told : tie.Need-enum-told
+enum-told c = search needs
+
+not-read-requires : tie.Need-not-read-requires
+not-read-requires c κs = search needs
+
+same-length : tie.Need-same-length
+same-length c = search needs
+
+same-length-2 : tie.Need-same-length-2
+same-length-2 c = search needs
+
+same-length-3 : tie.Need-same-length-3
+same-length-3 c = search needs
+
+returns-2 : tie.Need-returns-2
+returns-2 c =
+    let a = c .before .before .before .before .before .before .before .before .before .before .before .before .before .before .before .before .args in
+    let h = c .before .before .before .before .before .before .before .before .before .before .before .before .before .before .before .before .pre .lent in
+    first-refused (now (a .text)) (a .c .at) (a .op) (is-known (c .before .before .before .before .before .before .before .before .before .before .before)) (lent-rooms (now (a .a-planes)) (now (a .a-nodes)) (h .a-planes) (h .a-nodes)) (c .before .before .before .before .before .before .before .read-solid .last .1 .1 .1 .0) (c .before .before .before .before .before .before .before .read-solid .last .1 .1 .1 .1 .0) (now (a .b-planes)) (now (a .b-nodes)) (c .before .enum-told .given .1) (c .before .before .before .before .before .before .before .read-solid .ensures) (c .not-read .ensures)
 
 read-last-requires : tie.Need-read-last-requires
 read-last-requires c κs =
@@ -48,21 +66,6 @@ read-last-requires c κs =
 
 ordered-requires : tie.Need-ordered-requires
 ordered-requires c κs = search needs
-
-same-length : tie.Need-same-length
-same-length c = search needs
-
-same-length-2 : tie.Need-same-length-2
-same-length-2 c = search needs
-
-same-length-3 : tie.Need-same-length-3
-same-length-3 c = search needs
-
-returns-2 : tie.Need-returns-2
-returns-2 c =
-    let a = c .before .before .before .before .before .before .before .before .before .before .before .before .before .before .before .before .args in
-    let h = c .before .before .before .before .before .before .before .before .before .before .before .before .before .before .before .before .pre .lent in
-    first-refused (now (a .text)) (a .c .at) (a .op) (is-known (c .before .before .before .before .before .before .before .before .before .before .before)) (lent-rooms (now (a .a-planes)) (now (a .a-nodes)) (h .a-planes) (h .a-nodes)) (c .before .before .before .before .before .before .before .read-solid .last .1 .1 .1 .0) (c .before .before .before .before .before .before .before .read-solid .last .1 .1 .1 .1 .0) (c .before .k .given .1) (c .before .before .before .before .before .before .before .read-solid .ensures)
 
 same-length-4 : tie.Need-same-length-4
 same-length-4 c = search needs
@@ -91,14 +94,15 @@ read-known-spec =
     (tie.spec
     returns
     read-solid-requires
-    enum-known-k
-    enum-known-a
-    read-last-requires
-    ordered-requires
+    enum-known-r
+    enum-told
+    not-read-requires
     same-length
     same-length-2
     same-length-3
     returns-2
+    read-last-requires
+    ordered-requires
     same-length-4
     same-length-5
     same-length-6

@@ -9,8 +9,8 @@ use Rattle.inputs.proofs.read_order.Statement.{statement}
 use Rattle.inputs.proofs.read_order.Tie as tie
 
 -- the operation is read
-read-op : (c : tie.After-op) → Reads (now (c .before .before .before .before .before .before .before .args .text)) 0 (operation (c .op .given .0 .0)) 5 (c .op .given .0 .1 .0 .at)
-read-op c = subst (OperationTold (now (c .before .before .before .before .before .before .before .args .text)) 0) (c .op .given .1) (c .before .before .operation-at .ensures)
+read-op : (c : tie.After-r) → Reads (now (c .before .before .before .before .before .before .before .args .text)) 0 (operation (c .r .given .0 .0)) 5 (c .r .given .0 .1 .0 .at)
+read-op c = subst (OperationTold (now (c .before .before .before .before .before .before .before .args .text)) 0) (c .r .given .1) (c .before .before .operation-at .ensures)
 
 returns : tie.Need-returns
 returns c = text-long (now (c .before .before .before .before .args .text)) (c .if1 .taken)
@@ -18,17 +18,20 @@ returns c = text-long (now (c .before .before .before .before .args .text)) (c .
 operation-at-requires : tie.Need-operation-at-requires
 operation-at-requires c κs = search needs
 
-enum-known-k : tie.Need-enum-known-k
-enum-known-k c = search needs
+enum-known-r : tie.Need-enum-known-r
+enum-known-r c = search needs
 
-enum-known-op : tie.Need-enum-known-op
-enum-known-op c = search needs
+enum-told : tie.Need-enum-told
+enum-told c = search needs
+
+not-operation-requires : tie.Need-not-operation-requires
+not-operation-requires c κs = search needs
+
+returns-2 : tie.Need-returns-2
+returns-2 c = let a = c .before .before .before .before .before .before .before .before .args in no-operation (now (a .text)) (c .before .before .before .before .if1 .left) (now (a .a-planes)) (now (a .a-nodes)) (now (a .b-planes)) (now (a .b-nodes)) (c .before .enum-told .given .1) (c .before .before .before .operation-at .ensures) (c .not-operation .ensures)
 
 read-known-requires : tie.Need-read-known-requires
 read-known-requires c κs = record { inside = read-op (c .before .before .before .before .before .before) .inside; lent = c .before .before .before .before .before .before .before .before .before .before .before .before .before .pre }
-
-returns-2 : tie.Need-returns-2
-returns-2 c = let a = c .before .before .before .before .before .before .before .before .args in no-operation (now (a .text)) (c .before .before .before .before .if1 .left) (subst (OperationTold (now (a .text)) 0) (c .before .k .given .1) (c .before .before .before .operation-at .ensures))
 
 same-length : tie.Need-same-length
 same-length c = search needs
@@ -54,10 +57,11 @@ read-order-spec =
     (tie.spec
     returns
     operation-at-requires
-    enum-known-k
-    enum-known-op
-    read-known-requires
+    enum-known-r
+    enum-told
+    not-operation-requires
     returns-2
+    read-known-requires
     same-length
     same-length-2
     same-length-3

@@ -25,17 +25,14 @@ part-list-end c = omega (arith, joined-count (c .before .before .before .before 
 side-walk-requires : tie.Need-side-walk-requires
 side-walk-requires c κs = walk-in (c .before .before .before .before .before .before .before .before .before .before .before .before .before .before .before .before .before .pre .0) (c .before .before .before .before .before .before .before .before .before .before .before .before .before .before .before .before .before .pre .1) (c .before .before .before .before .before .before .before .before .before .before .join .ensures) (c .before .before .before .before .before .before .before .before .before .before .join .kept .1 .1 .1 .0) (whole-list (c .before .before .before .before .before .before .before .before .before .before .join .result) (c .before .before .before .before .before .before .before .before .before .before .join .last .1 .1 .0))
 
-enum-known-k : tie.Need-enum-known-k
-enum-known-k c = search needs
+enum-known-w : tie.Need-enum-known-w
+enum-known-w c = search needs
 
-enum-known-root : tie.Need-enum-known-root
-enum-known-root c = search needs
+enum-told : tie.Need-enum-told
+enum-told c = search needs
 
-list-used-requires : tie.Need-list-used-requires
-list-used-requires c κs = list-in (c .before .before .before .before .before .before .before .before .before .before .before .before .before .before .before .before .before .before .before .before .before .before .before .before .before .before .before .before .pre .0) (c .before .before .before .before .before .before .before .before .before .before .before .before .before .before .before .before .before .before .before .before .before .before .before .before .before .before .before .before .pre .1) (c .before .before .before .before .before .before .before .before .before .before .before .before .before .before .before .before .before .before .before .before .before .join .ensures) (c .before .before .before .before .before .before .before .before .before .before .before .before .before .before .before .before .before .before .before .before .before .join .kept .1 .1 .1 .0) (whole-list (c .before .before .before .before .before .before .before .before .before .before .before .before .before .before .before .before .before .before .before .before .before .join .result) (c .before .before .before .before .before .before .before .before .before .before .before .before .before .before .before .before .before .before .before .before .before .join .last .1 .1 .0)) (c .before .before .before .before .before .before .before .before .before .before .side-walk .ensures) (c .before .before .before .root .given .1)
-
-listed-requires : tie.Need-listed-requires
-listed-requires c κs = search needs
+not-walked-requires : tie.Need-not-walked-requires
+not-walked-requires c κs = search needs
 
 same-length : tie.Need-same-length
 same-length c = search needs
@@ -56,7 +53,13 @@ same-length-6 : tie.Need-same-length-6
 same-length-6 c = search needs
 
 returns : tie.Need-returns
-returns c = λ o A B s e a b w. outcome-refused (now (c .before .before .before .before .before .before .before .before .before .before .before .before .before .before .before .before .before .before .before .before .before .before .before .before .before .before .args .planes)) (c .before .k .given .1) (emitted a b (c .before .before .before .before .before .before .before .before .before .before .before .before .before .before .before .before .before .before .before .join .ensures) (lent-numbers (c .before .before .before .before .before .before .before .before .before .before .before .before .before .before .before .before .before .before .before .before .before .before .before .before .before .before .pre .1) (c .before .before .before .before .before .before .before .before .before .before .before .before .before .before .before .before .before .before .before .join .last .1 .1 .1 .0) (c .before .before .before .before .before .before .before .before .before .before .before .before .before .before .before .before .before .before .before .join .kept .1 .1 .1 .0)) (whole-list (c .before .before .before .before .before .before .before .before .before .before .before .before .before .before .before .before .before .before .before .join .result) (c .before .before .before .before .before .before .before .before .before .before .before .before .before .before .before .before .before .before .before .join .last .1 .1 .0)) (c .before .before .before .before .before .before .before .before .side-walk .ensures) o e w)
+returns c = λ o A B s e a b w. outcome-refused (now (c .before .before .before .before .before .before .before .before .before .before .before .before .before .before .before .before .before .before .before .before .before .before .before .before .before .before .args .planes)) (c .before .enum-told .given .1) (emitted a b (c .before .before .before .before .before .before .before .before .before .before .before .before .before .before .before .before .before .before .before .join .ensures) (lent-numbers (c .before .before .before .before .before .before .before .before .before .before .before .before .before .before .before .before .before .before .before .before .before .before .before .before .before .before .pre .1) (c .before .before .before .before .before .before .before .before .before .before .before .before .before .before .before .before .before .before .before .join .last .1 .1 .1 .0) (c .before .before .before .before .before .before .before .before .before .before .before .before .before .before .before .before .before .before .before .join .kept .1 .1 .1 .0)) (whole-list (c .before .before .before .before .before .before .before .before .before .before .before .before .before .before .before .before .before .before .before .join .result) (c .before .before .before .before .before .before .before .before .before .before .before .before .before .before .before .before .before .before .before .join .last .1 .1 .0)) (c .before .before .before .before .before .before .before .before .side-walk .ensures) o e w) (c .not-walked .ensures)
+
+list-used-requires : tie.Need-list-used-requires
+list-used-requires c κs = list-in (c .before .before .before .before .before .before .before .before .before .before .before .before .before .before .before .before .before .before .before .before .before .before .before .before .before .before .before .before .pre .0) (c .before .before .before .before .before .before .before .before .before .before .before .before .before .before .before .before .before .before .before .before .before .before .before .before .before .before .before .before .pre .1) (c .before .before .before .before .before .before .before .before .before .before .before .before .before .before .before .before .before .before .before .before .before .join .ensures) (c .before .before .before .before .before .before .before .before .before .before .before .before .before .before .before .before .before .before .before .before .before .join .kept .1 .1 .1 .0) (whole-list (c .before .before .before .before .before .before .before .before .before .before .before .before .before .before .before .before .before .before .before .before .before .join .result) (c .before .before .before .before .before .before .before .before .before .before .before .before .before .before .before .before .before .before .before .before .before .join .last .1 .1 .0)) (c .before .before .before .before .before .before .before .before .before .before .side-walk .ensures) (c .before .before .before .w .given .1)
+
+listed-requires : tie.Need-listed-requires
+listed-requires c κs = search needs
 
 same-length-7 : tie.Need-same-length-7
 same-length-7 c = search needs
@@ -80,7 +83,7 @@ same-length-13 : tie.Need-same-length-13
 same-length-13 c = search needs
 
 returns-2 : tie.Need-returns-2
-returns-2 c = λ o A B s e a b w. let n = lent-numbers (c .before .before .before .before .before .before .before .before .before .before .before .before .before .before .before .before .before .before .before .before .before .before .before .before .before .before .before .before .before .before .before .before .before .pre .1) (c .before .before .before .before .before .before .before .before .before .before .before .before .before .before .before .before .before .before .before .before .before .before .before .before .before .before .join .last .1 .1 .1 .0) (c .before .before .before .before .before .before .before .before .before .before .before .before .before .before .before .before .before .before .before .before .before .before .before .before .before .before .join .kept .1 .1 .1 .0) in let q = whole-list (c .before .before .before .before .before .before .before .before .before .before .before .before .before .before .before .before .before .before .before .before .before .before .before .before .before .before .join .result) (c .before .before .before .before .before .before .before .before .before .before .before .before .before .before .before .before .before .before .before .before .before .before .before .before .before .before .join .last .1 .1 .0) in outcome-listed a b (c .before .before .before .before .before .before .before .before .before .before .before .before .before .before .before .before .before .before .before .before .before .before .before .before .before .before .join .ensures) n q o w (c .before .before .before .before .before .before .before .before .before .before .before .before .before .before .before .before .before .before .before .before .before .before .before .before .before .before .before .before .before .before .before .before .before .pre .0 .nodes-zero) (got (c .before .before .before .before .before .before .before .before .root .given .1) (emitted a b (c .before .before .before .before .before .before .before .before .before .before .before .before .before .before .before .before .before .before .before .before .before .before .before .before .before .before .join .ensures) n q (c .before .before .before .before .before .before .before .before .before .before .before .before .before .before .before .side-walk .ensures) o e w)) (now (c .before .before .before .before .before .before .before .before .before .before .before .before .before .before .before .before .before .before .before .before .before .before .before .before .before .before .before .before .before .before .before .before .before .args .planes)) (c .before .before .before .before .list-used .last .1 .0) (c .before .before .before .before .list-used .last .1 .1 .0) (c .before .before .before .before .list-used .kept .1 .0) (c .before .before .before .before .list-used .result) (c .before .before .before .before .list-used .ensures) (c .listed .ensures)
+returns-2 c = λ o A B s e a b w. let n = lent-numbers (c .before .before .before .before .before .before .before .before .before .before .before .before .before .before .before .before .before .before .before .before .before .before .before .before .before .before .before .before .before .before .before .before .before .pre .1) (c .before .before .before .before .before .before .before .before .before .before .before .before .before .before .before .before .before .before .before .before .before .before .before .before .before .before .join .last .1 .1 .1 .0) (c .before .before .before .before .before .before .before .before .before .before .before .before .before .before .before .before .before .before .before .before .before .before .before .before .before .before .join .kept .1 .1 .1 .0) in let q = whole-list (c .before .before .before .before .before .before .before .before .before .before .before .before .before .before .before .before .before .before .before .before .before .before .before .before .before .before .join .result) (c .before .before .before .before .before .before .before .before .before .before .before .before .before .before .before .before .before .before .before .before .before .before .before .before .before .before .join .last .1 .1 .0) in outcome-listed a b (c .before .before .before .before .before .before .before .before .before .before .before .before .before .before .before .before .before .before .before .before .before .before .before .before .before .before .join .ensures) n q o w (c .before .before .before .before .before .before .before .before .before .before .before .before .before .before .before .before .before .before .before .before .before .before .before .before .before .before .before .before .before .before .before .before .before .pre .0 .nodes-zero) (got (c .before .before .before .before .before .before .before .before .w .given .1) (emitted a b (c .before .before .before .before .before .before .before .before .before .before .before .before .before .before .before .before .before .before .before .before .before .before .before .before .before .before .join .ensures) n q (c .before .before .before .before .before .before .before .before .before .before .before .before .before .before .before .side-walk .ensures) o e w)) (now (c .before .before .before .before .before .before .before .before .before .before .before .before .before .before .before .before .before .before .before .before .before .before .before .before .before .before .before .before .before .before .before .before .before .args .planes)) (c .before .before .before .before .list-used .last .1 .0) (c .before .before .before .before .list-used .last .1 .1 .0) (c .before .before .before .before .list-used .kept .1 .0) (c .before .before .before .before .list-used .result) (c .before .before .before .before .list-used .ensures) (c .listed .ensures)
 
 pub merge-with-spec : {M : Type 1} → statement M
 merge-with-spec =
@@ -92,10 +95,9 @@ merge-with-spec =
     part-list-start
     part-list-end
     side-walk-requires
-    enum-known-k
-    enum-known-root
-    list-used-requires
-    listed-requires
+    enum-known-w
+    enum-told
+    not-walked-requires
     same-length
     same-length-2
     same-length-3
@@ -103,6 +105,8 @@ merge-with-spec =
     same-length-5
     same-length-6
     returns
+    list-used-requires
+    listed-requires
     same-length-7
     same-length-8
     same-length-9

@@ -7,10 +7,10 @@ use lib.Dec.{lit<}
 use denote.Ref.{now}
 use Rattle.scope.specs.Planes.{flip}
 use Rattle.tables.specs.Rows.{plane-at}
-use Rattle.walks.proofs.Rank.{rank, rank-below, rank-over, base, base-a, base-b}
+use Rattle.walks.proofs.Rank.{rank, rank-row, rank-below, rank-under, base, base-a, base-b}
 use Rattle.walks.proofs.Emits.{room-same}
 use Rattle.walks.proofs.Ways.{plane-of-in, field-in}
-use Rattle.walks.proofs.Cycle.{node-row, node-deep, node-room, front-falls, back-falls, plane-ranged, Pushed, side-in, side-kept, node-front, node-back, node-closed, descend-in, cut-lower, cut-in, end-in, in-a, below-in, root-low, mark-high, side-cut, side-mark, side-b}
+use Rattle.walks.proofs.Cycle.{node-row, node-deep, node-room, front-falls, back-falls, plane-ranged, Pushed, side-in, side-kept, node-front, node-back, node-closed, step-in, cut-in, code-in, side-code, end-in, side-mark, in-a, below-in, root-low, side-b}
 use Prim.Native.Nat.{ℕ, _+_, _*_, _<_}
 use borrow.Fn.Kinds.{In}
 use borrow.Fn.PlainCycle.{Measures, is, falls, and}
@@ -26,7 +26,7 @@ use Rattle.walks.proofs.rows.close.Reads as close-reads
 use Rattle.walks.proofs.rows.ended.Reads as ended-reads
 use Rattle.walks.proofs.rows.field.Reads as field-reads
 use Rattle.walks.proofs.rows.number_of.Reads as number-of-reads
-use Rattle.walks.proofs.descend.Reads as descend-reads
+use Rattle.walks.proofs.step.Reads as step-reads
 use Rattle.tables.proofs.row.Reads as row-reads
 use Rattle.walks.proofs.+node_walk+side_walk.{statement}
 use Rattle.walks.proofs.+node_walk+side_walk.Tie.{close}
@@ -55,7 +55,7 @@ abbrev node-calls : ℕ → node-walk-lts.Claims
 node-calls t = (number-of-reads.Asked, number-of-reads.Learnt, row-reads.Asked, row-reads.Learnt, field-reads.Asked, field-reads.Learnt, push-reads.Asked, push-reads.Learnt, side-walk-below t, side-walk.Post, opposite-reads.Asked, opposite-reads.Learnt, close-reads.Asked, close-reads.Learnt)
 
 abbrev side-calls : ℕ → side-walk-lts.Claims
-side-calls t = (descend-reads.Asked, descend-reads.Learnt, node-walk-below t, node-walk.Post, ended-reads.Asked, ended-reads.Learnt, side-walk-below t, side-walk.Post)
+side-calls t = (step-reads.Asked, step-reads.Learnt, node-walk-below t, node-walk.Post, side-walk-below t, side-walk.Post, ended-reads.Asked, ended-reads.Learnt)
 
 node-walk-number-of-requires : (t : ℕ) → node-walk-lts.Need-number-of-requires (node-calls t) (node-walk-at t) node-walk.Post
 node-walk-number-of-requires t c κs = plane-of-in (node-row (c .before .before .before .before .pre .1) .row) .number-in
@@ -167,34 +167,25 @@ node-walk-same-length-12 t c = c .before .before .close .kept .0 ∙ c .before .
 node-walk-returns-3 : (t : ℕ) → node-walk-lts.Need-returns-3 (node-calls t) (node-walk-at t) node-walk.Post
 node-walk-returns-3 t c = node-closed (c .before .before .before .before .before .before .before .before .before .before .before .before .before .before .before .before .before .before .before .before .before .before .before .before .before .before .before .before .before .before .before .before .before .before .before .before .before .before .before .before .before .before .before .before .before .pre .1) (pushed-front t (c .before .before .before .before .before .before .before .before .before .before .before .before .before .before .before .before .before .before .before .before .before .before .before .before .before .before .before .before .before .before .before .before .before .before .before .before)) (c .before .before .before .before .before .before .before .before .before .before .before .before .before .before .before .before .before .before .before .before .before .before .before .before .before .before .before .before .before .before .before .before .before .before .before .before .before .before .field .ensures) (c .before .before .before .before .before .before .before .before .before .before .before .before .before .before .before .before .before .before .before .before .before .before .before .before .before .before .before .before .before .before .side-walk .ensures) (c .before .before .before .before .before .before .before .before .before .before .before .before .before .before .before .before .before .before .before .before .before .before .before .w .given .1) (c .before .before .before .before .before .before .before .before .before .before .before .before .before .before .before .before .before .before .before .before .before .before .before .before .before .before .before .before .before .before .side-walk .kept .1 .1 .1 .1 .1 .1 .1 .1 .1 .0) (pushed-back t (c .before .before .before .before .before .before .before .before .before .before .before .before .before .before .before .before .before .before)) (c .before .before .before .before .before .before .before .before .before .before .before .before .before .before .before .before .before .before .before .before .before .field2 .ensures) (c .before .before .before .before .before .before .before .before .before .before .before .before .side-walk2 .ensures) (c .before .before .before .before .before .v .given .1) (c .before .before .before .before .before .before .before .before .before .before .before .before .side-walk2 .kept .1 .1 .1 .1 .1 .1 .1 .1 .1 .0) (c .before .before .before .before .before .before .before .before .before .before .before .before .before .before .before .before .before .before .before .before .before .before .before .before .before .before .before .before .before .before .before .before .before .before .before .before .before .before .before .before .number-of .ensures) (c .before .before .close .ensures)
 
-side-walk-descend-requires : (t : ℕ) → side-walk-lts.Need-descend-requires (side-calls t) (side-walk-at t) side-walk.Post
-side-walk-descend-requires t c κs = descend-in (c .before .before .before .before .before .before .before .pre .1)
+side-walk-step-requires : (t : ℕ) → side-walk-lts.Need-step-requires (side-calls t) (side-walk-at t) side-walk.Post
+side-walk-step-requires t c κs = step-in (c .before .before .before .before .before .before .before .before .pre .1) (c .before .before .before .if1 .taken)
 
-side-walk-enum-known-row : (t : ℕ) → side-walk-lts.Need-enum-known-row (side-calls t) (side-walk-at t) side-walk.Post
-side-walk-enum-known-row t c = search needs
+side-walk-enum-known-x : (t : ℕ) → side-walk-lts.Need-enum-known-x (side-calls t) (side-walk-at t) side-walk.Post
+side-walk-enum-known-x t c = search needs
 
 side-walk-node-walk-requires : (t : ℕ) → side-walk-lts.Need-node-walk-requires (side-calls t) (side-walk-at t) side-walk.Post
 side-walk-node-walk-requires t c κs = (
-  subst (λ j. base (c .before .before .before .before .before .before .before .before .before .before .before .before .before .before .before .before .before .args .t .mark) + (c .before .before .before .before .before .row .given .0 .0 * 2 + 1) < j) (c .before .before .before .before .before .before .before .before .before .before .before .before .before .before .before .before .before .pre .0) (omega (arith, rank-over (c .before .before .before .before .before .row .given .0 .0) (c .before .before .before .before .before .before .before .before .before .before .before .before .before .before .before .before .before .args .code) (cut-lower (c .before .before .before .before .before .before .before .before .before .before .before .before .before .before .before .before .before .pre .1) (c .before .before .before .before .before .row .given .1) (c .before .before .before .before .before .before .before .before .before .descend .ensures) .0) (cut-lower (c .before .before .before .before .before .before .before .before .before .before .before .before .before .before .before .before .before .pre .1) (c .before .before .before .before .before .row .given .1) (c .before .before .before .before .before .before .before .before .before .descend .ensures) .1))),
-  cut-in (c .before .before .before .before .before .before .before .before .before .before .before .before .before .before .before .before .before .pre .1) (c .before .before .before .before .before .row .given .1) (c .before .before .before .before .before .before .before .before .before .descend .ensures) (c .before .before .before .before .before .before .before .before .before .descend .kept .1 .1 .1 .1 .1 .1 .1 .0) (c .before .before .before .before .before .before .before .before .before .descend .kept .1 .1 .1 .1 .1 .1 .1 .1 .0),
+  subst (λ j. base (c .before .before .before .before .before .before .before .before .before .before .before .before .before .before .before .before .before .before .args .t .mark) + (c .before .before .before .before .before .before .before .before .before .before .before .before .before .before .before .before .before .before .args .code * 2 + 1) < j) (c .before .before .before .before .before .before .before .before .before .before .before .before .before .before .before .before .before .before .pre .0) (omega (arith, rank-row (c .before .before .before .before .before .before .before .before .before .before .before .before .before .before .before .before .before .before .args .code) (c .before .before .before .before .before .before .before .before .before .before .before .before .before .if1 .taken))),
+  cut-in (c .before .before .before .before .before .before .before .before .before .before .before .before .before .before .before .before .before .before .pre .1) (c .before .before .before .before .before .before .before .before .before .before .before .before .before .if1 .taken) (c .before .before .before .before .before .before .before .before .before .step .ensures) (c .before .before .before .before .before .x .given .1) (c .before .before .before .before .before .before .before .before .before .step .kept .1 .1 .1 .1 .1 .1 .1 .0) (c .before .before .before .before .before .before .before .before .before .step .kept .1 .1 .1 .1 .1 .1 .1 .1 .0),
 )
 
-side-walk-enum-known-m : (t : ℕ) → side-walk-lts.Need-enum-known-m (side-calls t) (side-walk-at t) side-walk.Post
-side-walk-enum-known-m t c = search needs
-
-side-walk-ended-requires : (t : ℕ) → side-walk-lts.Need-ended-requires (side-calls t) (side-walk-at t) side-walk.Post
-side-walk-ended-requires t c κs = end-in (c .before .before .before .before .before .before .before .before .before .before .before .before .before .pre .1) (c .before .m .given .1) (c .before .before .before .before .before .descend .ensures)
-
-side-walk-enum-known-e : (t : ℕ) → side-walk-lts.Need-enum-known-e (side-calls t) (side-walk-at t) side-walk.Post
-side-walk-enum-known-e t c = search needs
-
-side-walk-enum-told : (t : ℕ) → side-walk-lts.Need-enum-told (side-calls t) (side-walk-at t) side-walk.Post
-side-walk-enum-told t c = search needs
+side-walk-enum-known-child : (t : ℕ) → side-walk-lts.Need-enum-known-child (side-calls t) (side-walk-at t) side-walk.Post
+side-walk-enum-known-child t c = search needs
 
 side-walk-side-walk-requires : (t : ℕ) → side-walk-lts.Need-side-walk-requires (side-calls t) (side-walk-at t) side-walk.Post
 side-walk-side-walk-requires t c κs = (
-  subst (λ j. base (c .before .before .before .before .before .before .before .before .m .given .0 .0) + rank (c .before .before .before .before .before .before .before .before .before .before .before .before .before .before .before .before .before .before .before .before .args .t .root) < j) (c .before .before .before .before .before .before .before .before .before .before .before .before .before .before .before .before .before .before .before .before .pre .0) (omega (arith, base-a (c .before .before .before .before .before .before .before .before .before .before .before .before .before .before .before .before .before .before .before .before .args .t .mark) (in-a (c .before .before .before .before .before .before .before .before .before .before .before .before .before .before .before .before .before .before .before .before .pre .1) (c .before .before .before .before .before .before .before .before .m .given .1) (c .before .before .before .before .before .before .before .before .before .before .before .before .descend .ensures) (c .before .before .before .before .enum-told .given .1) (c .before .before .before .before .before .before .ended .ensures)), base-b (c .before .before .before .before .before .before .before .before .m .given .0 .0) (mark-high (c .before .before .before .before .before .before .before .before .before .before .before .before .before .before .before .before .before .before .before .before .pre .1) (c .before .before .before .before .before .before .before .before .m .given .1) (c .before .before .before .before .before .before .before .before .before .before .before .before .descend .ensures) (c .before .before .before .before .enum-told .given .1) (c .before .before .before .before .before .before .ended .ensures)), rank-below (c .before .before .before .before .before .before .before .before .before .before .before .before .before .before .before .before .before .before .before .before .args .t .root) 1000 (root-low (c .before .before .before .before .before .before .before .before .before .before .before .before .before .before .before .before .before .before .before .before .pre .1) (c .before .before .before .before .before .before .before .before .m .given .1) (c .before .before .before .before .before .before .before .before .before .before .before .before .descend .ensures) (c .before .before .before .before .enum-told .given .1) (c .before .before .before .before .before .before .ended .ensures)))),
-  below-in (c .before .before .before .before .before .before .before .before .before .before .before .before .before .before .before .before .before .before .before .before .pre .1) (c .before .before .before .before .before .before .before .before .m .given .1) (c .before .before .before .before .before .before .before .before .before .before .before .before .descend .ensures) (c .before .before .before .before .enum-told .given .1) (c .before .before .before .before .before .before .ended .ensures) (c .before .before .before .before .before .before .before .before .before .before .before .before .descend .kept .1 .1 .1 .1 .1 .1 .1 .0) (c .before .before .before .before .before .before .before .before .before .before .before .before .descend .kept .1 .1 .1 .1 .1 .1 .1 .1 .0),
+  subst (λ j. base (c .before .before .before .before .before .before .before .before .before .before .before .before .before .before .before .before .before .before .args .t .mark) + rank (c .before .before .before .before .before .child .given .0 .0) < j) (c .before .before .before .before .before .before .before .before .before .before .before .before .before .before .before .before .before .before .pre .0) (omega (arith, rank-under (c .before .before .before .before .before .child .given .0 .0) (c .before .before .before .before .before .before .before .before .before .before .before .before .before .before .before .before .before .before .args .code) (c .before .before .before .before .before .before .before .before .before .before .before .before .before .if1 .taken) (c .before .before .before .before .before .before .before .before .before .step .ensures .falls (c .before .before .before .before .before .child .given .0 .0) (c .before .before .before .before .before .child .given .1)))),
+  code-in (c .before .before .before .before .before .before .before .before .before .before .before .before .before .before .before .before .before .before .pre .1) (c .before .before .before .before .before .before .before .before .before .before .before .before .before .if1 .taken) (c .before .before .before .before .before .before .before .before .before .step .ensures) (c .before .before .before .before .before .child .given .1) (c .before .before .before .before .before .before .before .before .before .step .kept .1 .1 .1 .1 .1 .1 .1 .0) (c .before .before .before .before .before .before .before .before .before .step .kept .1 .1 .1 .1 .1 .1 .1 .1 .0),
 )
 
 side-walk-same-length : (t : ℕ) → side-walk-lts.Need-same-length (side-calls t) (side-walk-at t) side-walk.Post
@@ -210,7 +201,7 @@ side-walk-same-length-4 : (t : ℕ) → side-walk-lts.Need-same-length-4 (side-c
 side-walk-same-length-4 t c = search needs
 
 side-walk-returns : (t : ℕ) → side-walk-lts.Need-returns (side-calls t) (side-walk-at t) side-walk.Post
-side-walk-returns t c = side-cut (c .before .before .before .before .before .before .before .before .before .before .before .before .before .before .before .before .before .before .before .before .before .before .before .pre .1) (c .before .before .before .before .before .before .before .before .before .before .before .row .given .1) (c .before .before .before .before .before .before .before .before .before .before .before .before .before .before .before .descend .ensures) (c .before .before .before .before .before .node-walk .ensures)
+side-walk-returns t c = c .before .before .before .before .before .node-walk .ensures
 
 side-walk-same-length-5 : (t : ℕ) → side-walk-lts.Need-same-length-5 (side-calls t) (side-walk-at t) side-walk.Post
 side-walk-same-length-5 t c = search needs
@@ -221,11 +212,29 @@ side-walk-same-length-6 t c = search needs
 side-walk-same-length-7 : (t : ℕ) → side-walk-lts.Need-same-length-7 (side-calls t) (side-walk-at t) side-walk.Post
 side-walk-same-length-7 t c = search needs
 
-side-walk-returns-2 : (t : ℕ) → side-walk-lts.Need-returns-2 (side-calls t) (side-walk-at t) side-walk.Post
-side-walk-returns-2 t c = side-mark (c .before .before .before .before .before .before .before .before .before .before .before .before .before .before .before .before .before .pre .1) (c .before .before .before .before .before .m .given .1) (c .before .before .before .before .before .before .before .before .before .descend .ensures) (c .before .e .given .1) (c .before .before .before .ended .ensures)
-
 side-walk-same-length-8 : (t : ℕ) → side-walk-lts.Need-same-length-8 (side-calls t) (side-walk-at t) side-walk.Post
 side-walk-same-length-8 t c = search needs
+
+side-walk-returns-2 : (t : ℕ) → side-walk-lts.Need-returns-2 (side-calls t) (side-walk-at t) side-walk.Post
+side-walk-returns-2 t c = side-code (c .before .before .before .before .before .before .before .before .before .before .before .before .before .before .before .before .before .before .before .before .before .before .before .before .pre .1) (c .before .before .before .before .before .before .before .before .before .before .before .before .before .before .before .before .before .before .before .if1 .taken) (c .before .before .before .before .before .before .before .before .before .before .before .before .before .before .before .step .ensures) (c .before .before .before .before .before .before .before .before .before .before .before .child .given .1) (c .before .before .before .before .before .side-walk .ensures)
+
+side-walk-ended-requires : (t : ℕ) → side-walk-lts.Need-ended-requires (side-calls t) (side-walk-at t) side-walk.Post
+side-walk-ended-requires t c κs = end-in (c .before .before .before .before .before .pre .1) (c .if1 .left)
+
+side-walk-enum-known-e : (t : ℕ) → side-walk-lts.Need-enum-known-e (side-calls t) (side-walk-at t) side-walk.Post
+side-walk-enum-known-e t c = search needs
+
+side-walk-enum-told : (t : ℕ) → side-walk-lts.Need-enum-told (side-calls t) (side-walk-at t) side-walk.Post
+side-walk-enum-told t c = search needs
+
+side-walk-side-walk-requires-2 : (t : ℕ) → side-walk-lts.Need-side-walk-requires-2 (side-calls t) (side-walk-at t) side-walk.Post
+side-walk-side-walk-requires-2 t c κs = (
+  subst (λ j. base (c .before .before .before .before .before .before .before .before .before .before .before .before .args .code) + rank (c .before .before .before .before .before .before .before .before .before .before .before .before .args .t .root) < j) (c .before .before .before .before .before .before .before .before .before .before .before .before .pre .0) (omega (arith, base-a (c .before .before .before .before .before .before .before .before .before .before .before .before .args .t .mark) (in-a (c .before .before .before .before .before .before .before .before .before .before .before .before .pre .1) (c .before .before .before .before .before .before .before .if1 .left) (c .before .before .before .before .enum-told .given .1) (c .before .before .before .before .before .before .ended .ensures)), base-b (c .before .before .before .before .before .before .before .before .before .before .before .before .args .code) (c .before .before .before .before .before .before .before .if1 .left), rank-below (c .before .before .before .before .before .before .before .before .before .before .before .before .args .t .root) 1000 (root-low (c .before .before .before .before .before .before .before .before .before .before .before .before .pre .1) (c .before .before .before .before .before .before .before .if1 .left) (c .before .before .before .before .enum-told .given .1) (c .before .before .before .before .before .before .ended .ensures)))),
+  below-in (c .before .before .before .before .before .before .before .before .before .before .before .before .pre .1) (c .before .before .before .before .before .before .before .if1 .left) (c .before .before .before .before .enum-told .given .1) (c .before .before .before .before .before .before .ended .ensures),
+)
+
+side-walk-returns-3 : (t : ℕ) → side-walk-lts.Need-returns-3 (side-calls t) (side-walk-at t) side-walk.Post
+side-walk-returns-3 t c = side-mark (c .before .before .before .before .before .before .before .before .before .pre .1) (c .before .before .before .before .if1 .left) (c .before .e .given .1) (c .before .before .before .ended .ensures)
 
 side-walk-same-length-9 : (t : ℕ) → side-walk-lts.Need-same-length-9 (side-calls t) (side-walk-at t) side-walk.Post
 side-walk-same-length-9 t c = search needs
@@ -236,8 +245,11 @@ side-walk-same-length-10 t c = search needs
 side-walk-same-length-11 : (t : ℕ) → side-walk-lts.Need-same-length-11 (side-calls t) (side-walk-at t) side-walk.Post
 side-walk-same-length-11 t c = search needs
 
-side-walk-returns-3 : (t : ℕ) → side-walk-lts.Need-returns-3 (side-calls t) (side-walk-at t) side-walk.Post
-side-walk-returns-3 t c = side-b (c .before .before .before .before .before .before .before .before .before .before .before .before .before .before .before .before .before .before .before .before .before .before .before .before .before .before .pre .1) (c .before .before .before .before .before .before .before .before .before .before .before .before .before .before .m .given .1) (c .before .before .before .before .before .before .before .before .before .before .before .before .before .before .before .before .before .before .descend .ensures) (c .before .before .before .before .before .before .before .before .before .before .enum-told .given .1) (c .before .before .before .before .before .before .before .before .before .before .before .before .ended .ensures) (c .before .before .before .before .before .side-walk .ensures)
+side-walk-same-length-12 : (t : ℕ) → side-walk-lts.Need-same-length-12 (side-calls t) (side-walk-at t) side-walk.Post
+side-walk-same-length-12 t c = search needs
+
+side-walk-returns-4 : (t : ℕ) → side-walk-lts.Need-returns-4 (side-calls t) (side-walk-at t) side-walk.Post
+side-walk-returns-4 t c = side-b (c .before .before .before .before .before .before .before .before .before .before .before .before .before .before .before .before .before .before .pre .1) (c .before .before .before .before .before .before .before .before .before .before .before .before .before .if1 .left) (c .before .before .before .before .before .before .before .before .before .before .enum-told .given .1) (c .before .before .before .before .before .before .before .before .before .before .before .before .ended .ensures) (c .before .before .before .before .before .side-walk2 .ensures)
 
 pub +node-walk+side-walk-spec : {M : Type 1} → statement M
 +node-walk+side-walk-spec = close μ-node-walk μ-side-walk (λ t. node-walk-lts.spec (node-calls t)
@@ -278,13 +290,10 @@ pub +node-walk+side-walk-spec : {M : Type 1} → statement M
     λ t. side-walk-lts.spec (side-calls t)
     (side-walk-at t)
     side-walk.Post
-    (side-walk-descend-requires t)
-    (side-walk-enum-known-row t)
+    (side-walk-step-requires t)
+    (side-walk-enum-known-x t)
     (side-walk-node-walk-requires t)
-    (side-walk-enum-known-m t)
-    (side-walk-ended-requires t)
-    (side-walk-enum-known-e t)
-    (side-walk-enum-told t)
+    (side-walk-enum-known-child t)
     (side-walk-side-walk-requires t)
     (side-walk-same-length t)
     (side-walk-same-length-2 t)
@@ -294,9 +303,15 @@ pub +node-walk+side-walk-spec : {M : Type 1} → statement M
     (side-walk-same-length-5 t)
     (side-walk-same-length-6 t)
     (side-walk-same-length-7 t)
-    (side-walk-returns-2 t)
     (side-walk-same-length-8 t)
+    (side-walk-returns-2 t)
+    (side-walk-ended-requires t)
+    (side-walk-enum-known-e t)
+    (side-walk-enum-told t)
+    (side-walk-side-walk-requires-2 t)
+    (side-walk-returns-3 t)
     (side-walk-same-length-9 t)
     (side-walk-same-length-10 t)
     (side-walk-same-length-11 t)
-    (side-walk-returns-3 t)
+    (side-walk-same-length-12 t)
+    (side-walk-returns-4 t)

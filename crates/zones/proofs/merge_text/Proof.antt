@@ -9,49 +9,34 @@ use Rattle.zones.proofs.TextMerge.{text-short, text-told}
 use borrow.Author.Needs.{needs}
 use Rattle.zones.proofs.merge_text.Statement.{statement}
 use Rattle.zones.proofs.merge_text.Tie as tie
-use Rattle.zones.proofs.merge_text.Reads as reads
-use Rattle.zones.proofs.merge_text.Lts as lts
-use Rattle.zeros.proofs.clear.Reads as clear-reads
-use Rattle.zeros.proofs.clear_text.Reads as clear-text-reads
-use Rattle.zones.proofs.merge_lent.Reads as merge-lent-reads
 
--- src/lib.rt:122:5
 clear-requires : tie.Need-clear-requires
 clear-requires c κs = search needs
 
--- src/lib.rt:124:9
 clear-text-requires : tie.Need-clear-text-requires
 clear-text-requires c κs = search needs
 
--- src/lib.rt:125:9
 same-length : tie.Need-same-length
 same-length c = search needs
 
--- src/lib.rt:125:9
 same-length-2 : tie.Need-same-length-2
 same-length-2 c = search needs
 
--- src/lib.rt:125:9
 returns : tie.Need-returns
 returns c = text-short (omega (arith, c .before .before .before .before .if1 .taken, c .before .before .before .before .before .before .clear .kept .0)) (c .before .before .clear-text .ensures) (c .before .before .before .before .before .before .clear .ensures)
 
--- src/lib.rt:127:9
 merge-lent-requires : tie.Need-merge-lent-requires
 merge-lent-requires c κs = record { enough = omega (arith, c .before .before .if1 .left); zeros = cleared (pos 0) (now (c .before .before .before .before .before .before .before .before .args .work)) (c .before .before .before .before .clear .last .0) (c .before .before .before .before .clear .ensures) }
 
--- src/lib.rt:128:5
 clear-requires-2 : tie.Need-clear-requires-2
 clear-requires-2 c κs = search needs
 
--- src/lib.rt:119:1
 same-length-3 : tie.Need-same-length-3
 same-length-3 c = search needs
 
--- src/lib.rt:119:1
 same-length-4 : tie.Need-same-length-4
 same-length-4 c = search needs
 
--- src/lib.rt:119:1
 returns-2 : tie.Need-returns-2
 returns-2 c = text-told (omega (arith, c .before .before .before .before .before .before .before .before .before .if1 .left, c .before .before .before .before .before .before .before .before .before .before .before .clear .kept .0)) (c .before .clear2 .ensures ∙ ap (λ n. replicate n (pos 0)) (c .before .before .before .before .before .before .merge-lent .kept .1 .1 .0 ∙ c .before .before .before .before .before .before .before .before .before .before .before .clear .kept .0)) (c .before .before .before .before .before .before .merge-lent .ensures)
 

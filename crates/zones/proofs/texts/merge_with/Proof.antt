@@ -1,4 +1,4 @@
--- `zones::merge_with` meets its contract: the order is refused, or merged (proofs/TextMerge). Assumes nothing.
+-- `zones::texts::merge_with` meets its contract: the order is refused, or merged (proofs/TextMerge). Assumes nothing.
 use mathlib.Core.Path.{subst, _∙_}
 use native.Mathlib.Omega.{arith}
 use lib.IntN.{pos}
@@ -7,33 +7,21 @@ use Rattle.zeros.proofs.Fill.{cleared}
 use Rattle.inputs.specs.Orders.{OrderHeld, OrderTold}
 use Rattle.zones.proofs.TextMerge.{order-lawful, with-refused, with-merged}
 use borrow.Author.Needs.{needs}
-use Rattle.zones.proofs.merge_with.Statement.{statement}
-use Rattle.zones.proofs.merge_with.Tie as tie
-use Rattle.zones.proofs.merge_with.Reads as reads
-use Rattle.zones.proofs.merge_with.Lts as lts
-use Rattle.inputs.proofs.read_order.Reads as read-order-reads
-use Rattle.zeros.proofs.clear.Reads as clear-reads
-use Rattle.zeros.proofs.clear_nodes.Reads as clear-nodes-reads
-use Rattle.zeros.proofs.clear_text.Reads as clear-text-reads
-use Rattle.zones.proofs.merge_read.Reads as merge-read-reads
+use Rattle.zones.proofs.texts.merge_with.Statement.{statement}
+use Rattle.zones.proofs.texts.merge_with.Tie as tie
 
--- src/lib.rt:77:5
 clear-requires : tie.Need-clear-requires
 clear-requires c κs = search needs
 
--- src/lib.rt:78:5
 clear-nodes-requires : tie.Need-clear-nodes-requires
 clear-nodes-requires c κs = search needs
 
--- src/lib.rt:79:5
 clear-requires-2 : tie.Need-clear-requires-2
 clear-requires-2 c κs = search needs
 
--- src/lib.rt:80:5
 clear-nodes-requires-2 : tie.Need-clear-nodes-requires-2
 clear-nodes-requires-2 c κs = search needs
 
--- src/lib.rt:81:11
 read-order-requires : tie.Need-read-order-requires
 read-order-requires c κs =
     let h = c .before .before .before .before .before .before .before .before .before .before .before .before .before .before .before .before .before .before .before .before .before .before .before .before .pre in
@@ -48,22 +36,42 @@ read-order-requires c κs =
       b-blank = record { planes = cleared (pos 0) (now (a .bp)) (c .before .before .before .before .before .before .before .before .before .before .clear2 .last .0) (c .before .before .before .before .before .before .before .before .before .before .clear2 .ensures); nodes = cleared 0 (now (a .bn)) (c .before .before .before .before .before .before .before .clear-nodes2 .last .0) (c .before .before .before .before .before .before .before .clear-nodes2 .ensures); work = h .zeros };
     }
 
--- src/lib.rt:82:28
-enum-known-k : tie.Need-enum-known-k
-enum-known-k c = search needs
+enum-known-o : tie.Need-enum-known-o
+enum-known-o c = search needs
 
--- src/lib.rt:83:13
+enum-told : tie.Need-enum-told
+enum-told c = search needs
+
 clear-text-requires : tie.Need-clear-text-requires
 clear-text-requires c κs = search needs
 
--- src/lib.rt:86:26
-enum-known-op : tie.Need-enum-known-op
-enum-known-op c = search needs
+not-ordered-requires : tie.Need-not-ordered-requires
+not-ordered-requires c κs = search needs
 
--- src/lib.rt:87:13
+same-length : tie.Need-same-length
+same-length c = search needs
+
+same-length-2 : tie.Need-same-length-2
+same-length-2 c = search needs
+
+same-length-3 : tie.Need-same-length-3
+same-length-3 c = search needs
+
+same-length-4 : tie.Need-same-length-4
+same-length-4 c = search needs
+
+same-length-5 : tie.Need-same-length-5
+same-length-5 c = search needs
+
+same-length-6 : tie.Need-same-length-6
+same-length-6 c = search needs
+
+returns : tie.Need-returns
+returns c = with-refused (c .before .before .before .before .before .before .before .before .before .before .before .before .before .before .read-order .last .1 .0) (c .before .before .before .before .before .before .before .before .before .before .before .before .before .before .read-order .last .1 .1 .0) (c .before .before .before .before .before .before .before .before .before .before .before .before .before .before .read-order .last .1 .1 .1 .0) (c .before .before .before .before .before .before .before .before .before .before .before .before .before .before .read-order .last .1 .1 .1 .1 .0) (c .before .before .before .before .before .enum-told .given .1) (c .before .before .before .before .before .before .before .before .before .before .before .before .before .before .read-order .ensures) (c .before .before .before .clear-text .ensures) (c .not-ordered .ensures)
+
 -- the order that was read
-ordered : (c : tie.After-op) → OrderHeld (now (c .before .before .before .before .before .before .before .before .before .before .before .before .before .before .before .before .before .before .before .before .before .before .before .before .before .before .before .before .before .before .before .before .before .before .args .text)) (c .before .before .before .before .before .before .before .before .before .read-order .last .1 .0) (c .before .before .before .before .before .before .before .before .before .read-order .last .1 .1 .0) (c .before .before .before .before .before .before .before .before .before .read-order .last .1 .1 .1 .0) (c .before .before .before .before .before .before .before .before .before .read-order .last .1 .1 .1 .1 .0) (c .op .given .0 .0) (c .op .given .0 .1 .0) (c .op .given .0 .1 .1 .0)
-ordered c = subst (OrderTold (now (c .before .before .before .before .before .before .before .before .before .before .before .before .before .before .before .before .before .before .before .before .before .before .before .before .before .before .before .before .before .before .before .before .before .before .args .text)) (c .before .before .before .before .before .before .before .before .before .read-order .last .1 .0) (c .before .before .before .before .before .before .before .before .before .read-order .last .1 .1 .0) (c .before .before .before .before .before .before .before .before .before .read-order .last .1 .1 .1 .0) (c .before .before .before .before .before .before .before .before .before .read-order .last .1 .1 .1 .1 .0)) (c .op .given .1) (c .before .before .before .before .before .before .before .before .before .read-order .ensures)
+ordered : (c : tie.After-o) → OrderHeld (now (c .before .before .before .before .before .before .before .before .before .before .before .before .before .before .before .before .before .before .before .before .before .before .before .before .before .before .before .before .before .before .before .before .before .before .args .text)) (c .before .before .before .before .before .before .before .before .before .read-order .last .1 .0) (c .before .before .before .before .before .before .before .before .before .read-order .last .1 .1 .0) (c .before .before .before .before .before .before .before .before .before .read-order .last .1 .1 .1 .0) (c .before .before .before .before .before .before .before .before .before .read-order .last .1 .1 .1 .1 .0) (c .o .given .0 .0) (c .o .given .0 .1 .0) (c .o .given .0 .1 .1 .0)
+ordered c = subst (OrderTold (now (c .before .before .before .before .before .before .before .before .before .before .before .before .before .before .before .before .before .before .before .before .before .before .before .before .before .before .before .before .before .before .before .before .before .before .args .text)) (c .before .before .before .before .before .before .before .before .before .read-order .last .1 .0) (c .before .before .before .before .before .before .before .before .before .read-order .last .1 .1 .0) (c .before .before .before .before .before .before .before .before .before .read-order .last .1 .1 .1 .0) (c .before .before .before .before .before .before .before .before .before .read-order .last .1 .1 .1 .1 .0)) (c .o .given .1) (c .before .before .before .before .before .before .before .before .before .read-order .ensures)
 
 merge-read-requires : tie.Need-merge-read-requires
 merge-read-requires c κs =
@@ -71,67 +79,30 @@ merge-read-requires c κs =
     let h = c .before .before .before .before .before .before .before .before .before .before .before .before .before .before .before .before .before .before .before .before .before .before .before .before .before .before .before .before .before .before .before .before .before .before .before .before .before .before .before .before .before .before .before .pre in
     record { first = o .first; first-lawful = order-lawful o .0; first-held = o .first-held; second = o .second; second-lawful = order-lawful o .1; second-held = o .second-held; planes = h .planes; nodes = h .nodes; enough = omega (arith, h .enough, c .before .before .before .before .before .before .before .before .before .before .before .before .before .before .before .before .before .before .read-order .kept .1 .1 .1 .1 .1 .0) }
 
--- src/lib.rt:63:1
-same-length : tie.Need-same-length
-same-length c = search needs
-
--- src/lib.rt:63:1
-same-length-2 : tie.Need-same-length-2
-same-length-2 c = search needs
-
--- src/lib.rt:63:1
-same-length-3 : tie.Need-same-length-3
-same-length-3 c = search needs
-
--- src/lib.rt:63:1
-same-length-4 : tie.Need-same-length-4
-same-length-4 c = search needs
-
--- src/lib.rt:63:1
-same-length-5 : tie.Need-same-length-5
-same-length-5 c = search needs
-
--- src/lib.rt:63:1
-same-length-6 : tie.Need-same-length-6
-same-length-6 c = search needs
-
--- src/lib.rt:63:1
-returns : tie.Need-returns
-returns c = with-refused (subst (OrderTold (now (c .before .before .before .before .before .before .before .before .before .before .before .before .before .before .before .before .before .before .before .before .before .before .before .before .before .before .before .before .before .before .before .before .before .before .before .before .before .before .before .args .text)) (c .before .before .before .before .before .before .before .before .before .before .before .before .before .before .read-order .last .1 .0) (c .before .before .before .before .before .before .before .before .before .before .before .before .before .before .read-order .last .1 .1 .0) (c .before .before .before .before .before .before .before .before .before .before .before .before .before .before .read-order .last .1 .1 .1 .0) (c .before .before .before .before .before .before .before .before .before .before .before .before .before .before .read-order .last .1 .1 .1 .1 .0)) (c .before .before .before .before .before .k .given .1) (c .before .before .before .before .before .before .before .before .before .before .before .before .before .before .read-order .ensures)) (c .before .before .clear-text .ensures)
-
--- src/lib.rt:63:1
 same-length-7 : tie.Need-same-length-7
 same-length-7 c = c .before .before .before .before .before .before .before .before .before .before .before .before .before .before .before .before .before .before .before .before .before .before .before .before .before .read-order .kept .1 .0 ∙ c .before .before .before .before .before .before .before .before .before .before .before .before .before .before .before .before .before .before .before .before .before .before .before .before .before .before .before .before .before .before .before .before .before .before .before .before .before .before .before .before .before .before .before .clear .kept .0
 
--- src/lib.rt:63:1
 same-length-8 : tie.Need-same-length-8
 same-length-8 c = c .before .before .before .before .before .before .before .before .before .before .before .before .before .before .before .before .before .before .before .before .before .before .before .before .before .read-order .kept .1 .1 .0 ∙ c .before .before .before .before .before .before .before .before .before .before .before .before .before .before .before .before .before .before .before .before .before .before .before .before .before .before .before .before .before .before .before .before .before .before .before .before .before .before .before .before .clear-nodes .kept .0
 
--- src/lib.rt:63:1
 same-length-9 : tie.Need-same-length-9
 same-length-9 c = c .before .before .before .before .before .before .before .before .before .before .before .before .before .before .before .before .before .before .before .before .before .before .before .before .before .read-order .kept .1 .1 .1 .0 ∙ c .before .before .before .before .before .before .before .before .before .before .before .before .before .before .before .before .before .before .before .before .before .before .before .before .before .before .before .before .before .before .before .before .before .before .before .before .clear2 .kept .0
 
--- src/lib.rt:63:1
 same-length-10 : tie.Need-same-length-10
 same-length-10 c = c .before .before .before .before .before .before .before .before .before .before .before .before .before .before .before .before .before .before .before .before .before .before .before .before .before .read-order .kept .1 .1 .1 .1 .0 ∙ c .before .before .before .before .before .before .before .before .before .before .before .before .before .before .before .before .before .before .before .before .before .before .before .before .before .before .before .before .before .before .before .before .before .clear-nodes2 .kept .0
 
--- src/lib.rt:63:1
 same-length-11 : tie.Need-same-length-11
 same-length-11 c = search needs
 
--- src/lib.rt:63:1
 same-length-12 : tie.Need-same-length-12
 same-length-12 c = search needs
 
--- src/lib.rt:63:1
 same-length-13 : tie.Need-same-length-13
 same-length-13 c = search needs
 
--- src/lib.rt:63:1
 same-length-14 : tie.Need-same-length-14
 same-length-14 c = search needs
 
--- src/lib.rt:63:1
 returns-2 : tie.Need-returns-2
 returns-2 c = with-merged (ordered (c .before .before .before .before .before .before .before .before .before .before .before .before .before .before .before .before)) (c .before .before .before .before .before .before .merge-read .ensures)
 
@@ -144,10 +115,10 @@ merge-with-spec =
     clear-requires-2
     clear-nodes-requires-2
     read-order-requires
-    enum-known-k
+    enum-known-o
+    enum-told
     clear-text-requires
-    enum-known-op
-    merge-read-requires
+    not-ordered-requires
     same-length
     same-length-2
     same-length-3
@@ -155,6 +126,7 @@ merge-with-spec =
     same-length-5
     same-length-6
     returns
+    merge-read-requires
     same-length-7
     same-length-8
     same-length-9
