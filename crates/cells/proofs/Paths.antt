@@ -2,6 +2,8 @@
 --     on-rows, on-ranged         the cell is the rows, last first, and the box; each row is in range
 --     on-map, on-kept            of other planes; the kept half-spaces of the theory of cells
 --     on-stack, on-missed        the stack of the theory, and the side of a plane that misses the cell
+--     half-ranged                both sides of a plane in range are
+--     four-same, getD-before, put-row   four entries that stay, the entries before a store, and a stored row
 --     on-same, on-push           a table with the same rows, and one row more
 --     cut-asked, missed-asked    what `cut` and `missed` are given
 --     classified-cut, classified-missed   the answer, from that of `cut`
@@ -54,7 +56,7 @@ on-rows at-box = refl
 on-rows (below h s g q e w) = let a = on-rows h in let b = sym e in λ i. b i ∷ a i
 
 -- both sides of a plane in range are
-half-ranged : (s : Bool) (g : Plane) → T (in-range g) → in-range (half s g) ≡ true
+pub half-ranged : (s : Bool) (g : Plane) → T (in-range g) → in-range (half s g) ≡ true
 unfolding flip
 half-ranged true g t = is-true (in-range g) t
 half-ranged false g t = is-true (in-range (flip g)) (in-range-of (flip g) (turned (ranged g t)))
@@ -115,7 +117,7 @@ on-missed {path = path} (below {d = d} {c = c} h s g k e w) p l n = go (same? p 
 
 -- ---- tables
 
-four-same : (t u : List ℤ) (i : ℕ) → ((j : ℕ) → i ≤ j → j < i + 4 → getD u j (pos 0) ≡ getD t j (pos 0)) → four-at u i ≡ four-at t i
+pub four-same : (t u : List ℤ) (i : ℕ) → ((j : ℕ) → i ≤ j → j < i + 4 → getD u j (pos 0) ≡ getD t j (pos 0)) → four-at u i ≡ four-at t i
 four-same t u i f =
     let x = f i (omega arith) (omega arith) in
     let y = f (i + 1) (omega arith) (omega arith) in
@@ -131,7 +133,7 @@ on-same {path = path} {path′ = path′} (below {d = d} {c = c} h s g q e w) f 
     let x = four-same path path′ (d * 8 + 4) (λ j a b. f j (omega arith)) in
     below (on-same h (λ i l. f i (omega arith))) s g q (r ∙ e) (subst (Witness g c) (sym x) w)
 
-getD-before : (vs l : List ℤ) (i j : ℕ) → j < i → getD (sets l i vs) j (pos 0) ≡ getD l j (pos 0)
+pub getD-before : (vs l : List ℤ) (i j : ℕ) → j < i → getD (sets l i vs) j (pos 0) ≡ getD l j (pos 0)
 getD-before [] l i j h = refl
 getD-before (v ∷ vs) l i j h = getD-before vs (set l i v) (suc i) j (omega arith) ∙ getD-set-other l i j v (pos 0) (λ e. omega arith)
 
@@ -147,7 +149,7 @@ abbrev pub eight : Plane → Point → List ℤ
 eight h X = h .x ∷ h .y ∷ h .z ∷ h .w ∷ X .x ∷ X .y ∷ X .z ∷ X .w ∷ []
 
 module _ (path : List ℤ) (d : ℕ) (h : Plane) (X : Point) (l : d * 8 + 8 ≤ length path) where
-  put-row : row (sets path (d * 8) (eight h X)) 8 d ≡ h
+  pub put-row : row (sets path (d * 8) (eight h X)) 8 d ≡ h
   unfolding row
   put-row =
       let x = getD-at (eight h X) path (d * 8) 0 (d * 8) (omega arith) (omega arith) (omega arith) in

@@ -1,3 +1,2 @@
-pub mod Trees
 pub mod Sound
 pub mod Told

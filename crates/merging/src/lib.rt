@@ -1,59 +1,20 @@
 // The merge of two solids, as document 01's "Cells and the merge" has it: lent tables in, lent tables out.
 // The planes of A and B become one ascending list; the walks put rows out with its numbers. Then the planes that no row uses go, and the
 // rows' numbers change. A's planes, nodes and root code are ap, an, ar, and B's bp, bn, br.
-use lists::Listed;
+use results::Given;
+use results::not_sound;
+use results::put_out;
 use tables::Judgement;
 use tables::Solid;
 use walks::Turn;
-use walks::Walked;
 ghost use mathlib.Core.Path.{_≡_};
 ghost use lib.ListN.{length};
 ghost use Rattle.scope.specs.Judging.{known as is-known};
-ghost use Rattle.merging.specs.Promises.{listed-as, not-walked, not-sound, SoundIn, LentIn, SoundTold, JudgedIn, JudgedTold, MergeTold};
-
-// ---- the answers
-
-// The merged solid's counts and root code, or the number of the refusal.
-pub enum Merged {
-    Solid(Solid),
-    Refused(u8),
-}
-
-// The refusal of a walk, told of the merge. A walk that is done has none: it is not asked for, and the number is 0.
-fn not_walked(w: Walked) -> Merged
-    ensures { λ r. ⌜ r ≡ not-walked w ⌝ }
-{
-    match w {
-        Walked::Refused(k) => Merged::Refused(k),
-        Walked::Done(_, _) => Merged::Refused(0),
-    }
-}
-
-// The refusal of a solid, told of the merge. A solid that is sound has none: it is not asked for, and the number is 0.
-fn not_sound(j: Judgement) -> Merged
-    ensures { λ r. ⌜ r ≡ not-sound j ⌝ }
-{
-    match j {
-        Judgement::Refused(k, _) => Merged::Refused(k),
-        Judgement::Sound(_) => Merged::Refused(0),
-    }
-}
+ghost use Rattle.results.specs.Results.{ZerosIn};
+ghost use Rattle.results.specs.Operands.{SoundIn, LentIn};
+ghost use Rattle.merging.specs.Promises.{SoundTold, JudgedTold, MergeTold};
 
 // ---- two solids
-
-// The counts of the merged solid, of m rows and that root code, from those of its planes.
-fn listed(l: Listed, m: usize, root: u16) -> Merged
-    ensures { λ r. ⌜ r ≡ listed-as l m root ⌝ }
-{
-    match l {
-        Listed::Refused(k) => Merged::Refused(k),
-        Listed::Planes(n) => Merged::Solid(Solid {
-            planes: n,
-            nodes: m,
-            root,
-        }),
-    }
-}
 
 // The merge of two sound solids, put out into tables of zeros, with tables lent for the joined list and for sections.
 fn merge_with(
@@ -71,7 +32,7 @@ fn merge_with(
     numbers: &mut [u16],
     first: &mut [i64],
     second: &mut [i64],
-) -> Merged
+) -> Given
     requires { ⌜ SoundIn op (now ap) (now an) ar (now bp) (now bn) br (now planes) (now nodes) (now path) × LentIn (now joined) (now numbers) (now first) (now second) ⌝ }
     ensures { λ r. ⌜ SoundTold op (now (ap .entry)) (now (an .entry)) ar (now (bp .entry)) (now (bn .entry)) br (now (planes .entry)) (now (planes .exit)) (now (nodes .entry)) (now (nodes .exit)) r ⌝ }
 {
@@ -96,10 +57,7 @@ fn merge_with(
         0,
         ar, // from A's root
     );
-    let Walked::Done(root, m) = w else {
-        return not_walked(w);
-    };
-    listed(lists::list_used(list, planes, nodes, m), m, root)
+    put_out(list, planes, nodes, w)
 }
 
 // The merge of two sound solids, put out into tables of zeros.
@@ -114,7 +72,7 @@ fn merge_sound(
     planes: &mut [i64],
     nodes: &mut [u16],
     path: &mut [i64],
-) -> Merged
+) -> Given
     requires { ⌜ SoundIn op (now ap) (now an) ar (now bp) (now bn) br (now planes) (now nodes) (now path) ⌝ }
     ensures { λ r. ⌜ SoundTold op (now (ap .entry)) (now (an .entry)) ar (now (bp .entry)) (now (bn .entry)) br (now (planes .entry)) (now (planes .exit)) (now (nodes .entry)) (now (nodes .exit)) r ⌝ }
 {
@@ -161,15 +119,15 @@ fn merge_judged(
     planes: &mut [i64],
     nodes: &mut [u16],
     work: &mut [i64],
-) -> Merged
-    requires { ⌜ JudgedIn (now planes) (now nodes) ⌝ }
+) -> Given
+    requires { ⌜ ZerosIn (now planes) (now nodes) ⌝ }
     ensures { λ r. ⌜ JudgedTold (length (now (work .entry))) op (now (ap .entry)) (now (an .entry)) ar (now (bp .entry)) (now (bn .entry)) br (now (planes .entry)) (now (planes .exit)) (now (nodes .entry)) (now (nodes .exit)) r ⌝ }
 {
     if work.len() < zeros::WORK {
-        return Merged::Refused(8);
+        return Given::Refused(8);
     }
     if !known(op) {
-        return Merged::Refused(7);
+        return Given::Refused(7);
     }
     let a = tables::judge(ap, an, ar, work);
     let Judgement::Sound(_) = a else {
@@ -196,17 +154,17 @@ pub fn merge(
     planes: &mut [i64],
     nodes: &mut [u16],
     work: &mut [i64],
-) -> Merged
+) -> Given
     ensures { λ r. ⌜ MergeTold op (now (ap .entry)) (now (an .entry)) ar (now (bp .entry)) (now (bn .entry)) br (now (planes .entry)) (now (planes .exit)) (now (nodes .entry)) (now (nodes .exit)) (now (work .entry)) (now (work .exit)) r ⌝ }
 {
     zeros::clear(planes); // of what was lent
     zeros::clear_nodes(nodes);
     let m = merge_judged(op, ap, an, ar, bp, bn, br, planes, nodes, work);
     zeros::clear(work);
-    let Merged::Solid(s) = m else {
+    let Given::Solid(s) = m else {
         zeros::clear(planes); // of what a refusal left
         zeros::clear_nodes(nodes);
         return m;
     };
-    Merged::Solid(s)
+    Given::Solid(s)
 }

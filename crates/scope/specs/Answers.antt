@@ -162,7 +162,7 @@ pub data FormBy (s : Rooms) (A : Verdict) : Answer Tables → Type 0 where
 abbrev pub FormAnswer : ℕ → Rooms → Lent → Answer Tables → Type 0
 FormAnswer work s A = WithWork work (FormBy s (judge-lent A))
 
--- ---- the merge program: bytes to bytes (X.11, X.12)
+-- ---- the programs: bytes to bytes (X.11, X.12)
 
 abbrev pub printed : Answer Tables → List ℕ
 printed (given a) = text a
@@ -178,3 +178,7 @@ program-rooms = record { plane-rows = program-planes; node-rows = program-nodes 
 pub data MergeText (t : List ℕ) : List ℕ → Type 0 where
   unread : {n l : ℕ} → judge-merge operand-rooms t ≡ order-refused n l → MergeText t (refusal-line n)
   merged-text : {o : ℕ} {a b : Tables} {r : Answer Tables} → judge-merge operand-rooms t ≡ order o a b → MergeBy program-rooms o (accepted a) (accepted b) r → MergeText t (printed r)
+
+-- the normal form program reads one solid
+pub data FormText (t : List ℕ) : List ℕ → Type 0 where
+  formed-text : {r : Answer Tables} → FormBy program-rooms (judge operand-rooms t) r → FormText t (printed r)

@@ -1,5 +1,5 @@
 -- What five stores leave in a table of corners, and four in a table of rows.
-use mathlib.Core.Path.{_≡_, refl, ap, _∙_}
+use mathlib.Core.Path.{_≡_, refl, sym, ap, _∙_}
 use mathlib.Core.Bool.{true}
 use mathlib.Core.List.{List, [], _∷_, _++_}
 use Prim.Native.Nat.{ℕ, zero, suc, _+_, _-_, _*_, _≤_, _<_}
@@ -9,27 +9,13 @@ use lib.IntN.{ℤ, pos, negsuc}
 use lib.ListN.{length, getD, set, length-append, length-set}
 use lib.Seq.{sets, getD-set-same, getD-set-other}
 use Rattle.scope.specs.Planes.{Plane, in-range}
-use Rattle.scope.specs.Cells.{x-}
 use Rattle.theory.specs.Section.{corner}
 use Rattle.planes.specs.Values.{quad}
-use Rattle.sections.specs.Tables.{four-at, row, box-or, look, number, corner-at, read}
+use Rattle.sections.specs.Tables.{row, box-side, look, number, corner-at, read}
 
 -- ---- the planes of indices
 
--- the code's table of the box
-abbrev boxes : List ℤ
-boxes = pos 1 ∷ pos 0 ∷ pos 0 ∷ pos 30000 ∷ negsuc 0 ∷ pos 0 ∷ pos 0 ∷ pos 30000 ∷ pos 0 ∷ pos 1 ∷ pos 0 ∷ pos 30000 ∷ pos 0 ∷ negsuc 0 ∷ pos 0 ∷ pos 30000 ∷ pos 0 ∷ pos 0 ∷ pos 1 ∷ pos 30000 ∷ pos 0 ∷ pos 0 ∷ negsuc 0 ∷ pos 30000 ∷ []
-
-pub box-at : (k : ℕ) → k < 6 → four-at boxes (4 * k) ≡ box-or k x-
-box-at zero l = refl
-box-at (suc zero) l = refl
-box-at (suc (suc zero)) l = refl
-box-at (suc (suc (suc zero))) l = refl
-box-at (suc (suc (suc (suc zero)))) l = refl
-box-at (suc (suc (suc (suc (suc zero))))) l = refl
-box-at (suc (suc (suc (suc (suc (suc k)))))) l = absurd (omega arith)
-
-pub look-box : (hs : List ℤ) (width k : ℕ) → k < 6 → box-or k x- ≡ look hs width k
+pub look-box : (hs : List ℤ) (width k : ℕ) → k < 6 → box-side k ≡ look hs width k
 unfolding look
 look-box hs w zero l = refl
 look-box hs w (suc zero) l = refl
@@ -125,12 +111,15 @@ unfolding read
 read-none t = refl
 
 -- the sides of the box are in range
+pub side-in : (k : ℕ) → k < 6 → in-range (box-side k) ≡ true
+unfolding in-range
+side-in zero l = refl
+side-in (suc zero) l = refl
+side-in (suc (suc zero)) l = refl
+side-in (suc (suc (suc zero))) l = refl
+side-in (suc (suc (suc (suc zero)))) l = refl
+side-in (suc (suc (suc (suc (suc zero))))) l = refl
+side-in (suc (suc (suc (suc (suc (suc k)))))) l = absurd (omega arith)
+
 pub box-in : (hs : List ℤ) (width k : ℕ) → k < 6 → in-range (look hs width k) ≡ true
-unfolding look in-range
-box-in hs w zero l = refl
-box-in hs w (suc zero) l = refl
-box-in hs w (suc (suc zero)) l = refl
-box-in hs w (suc (suc (suc zero))) l = refl
-box-in hs w (suc (suc (suc (suc zero)))) l = refl
-box-in hs w (suc (suc (suc (suc (suc zero))))) l = refl
-box-in hs w (suc (suc (suc (suc (suc (suc k)))))) l = absurd (omega arith)
+box-in hs w k l = ap in-range (sym (look-box hs w k l)) ∙ side-in k l

@@ -137,25 +137,24 @@ module _ (s : Plane) (hs : List ℤ) (width k : ℕ) (t : List ℤ) (n : ℕ) (o
   vertex-in : (i : ℕ) → i < n → MeetingIn (vertex (corner-at t i))
   vertex-in i l = polygon-vertex s hs width (a .top) (a .gs) (a .region) t n (a .polygon) i l
 
-  module _ (h : struct.Plane) (e : plane h ≡ plane-of k) (sides : List ℕ) where
-    pub clip-sides : n ≤ length sides → SidesIn h t n sides
-    clip-sides l = record {
-      each = λ i m. record {
-        room = omega (arith, a .polygon .room);
-        plane-in = in-range-in (ap in-range e ∙ a .region .ranged k (a .k-below));
-        vertex-in = vertex-in i m;
-      };
-      room = l;
-      few = omega (arith, clip-n);
+  module _ (h : struct.Plane) (e : plane h ≡ plane-of k) where
+    pub clip-side : (i : ℕ) → i < n → SideIn h t i
+    clip-side i l = record {
+      room = omega (arith, a .polygon .room);
+      plane-in = in-range-in (ap in-range e ∙ a .region .ranged k (a .k-below));
+      vertex-in = vertex-in i l;
     }
+
+    pub clip-sides : (sides : List ℕ) → n ≤ length sides → SidesIn h t n sides
+    clip-sides sides l = record { each = clip-side; room = l; few = omega (arith, clip-n) }
 
     side-is : (i : ℕ) → i < n → side-of h t i ≡ corner-side s plane-of k (getD cs i d)
     side-is i l = (λ j. sgn (at (e j) (vertex (sym (corner-is i l) j))))
 
-    module _ (m : ℕ) (l : Looked h t n sides m) where
-      pub clip-same : m ≡ n → clipped ≡ is
-      clip-same q = clip-all-front s plane-of k d is upright (λ i b. let c : i < n = omega (arith, indices-length t n) in sym (side-is i c) ∙ l .all q i c)
+    pub clip-same : ((i : ℕ) → i < n → side-of h t i ≡ plus) → clipped ≡ is
+    clip-same f = clip-all-front s plane-of k d is upright (λ i b. let c : i < n = omega (arith, indices-length t n) in sym (side-is i c) ∙ f i c)
 
+    module _ (sides : List ℕ) (m : ℕ) (l : Looked h t n sides m) where
       pub clip-gone : m ≡ 0 → clipped ≡ []
       clip-gone q = clip-no-front s plane-of k d is upright (λ i b g. let c : i < n = omega (arith, indices-length t n) in l .none q i c (side-is i c ∙ g))
 

@@ -3,33 +3,34 @@ use mathlib.Core.Path.{_≡_, refl, sym, ap, _∙_}
 use mathlib.Core.Logic.{_≢_}
 use mathlib.Core.Bool.{Bool, true}
 use mathlib.Core.List.{List, [], _∷_, _++_}
-use Prim.Native.Nat.{ℕ, zero, suc, _+_, _-_, _*_, _≤_, _<_}
+use Prim.Native.Nat.{ℕ, zero, suc, _+_, _-_, _*_, _/_, _≤_, _<_}
 use native.Mathlib.Numerals.{add-one}
 use native.Mathlib.Omega.{arith}
-use lib.IntN.{ℤ, pos}
-use lib.ListN.{length, getD, set, take, length-append}
+use lib.IntN.{ℤ}
+use lib.ListN.{length, getD, set, length-append}
 use lib.Dec.{T, ltb, ltb→lt}
-use lib.Seq.{getD-set-same, getD-set-other, getD-take, take-suc, take-all}
-use Rattle.whole.specs.Tests.{_and_, and-split}
-use Rattle.whole.specs.Sign.{Sign, plus}
-use Rattle.scope.specs.Planes.{Plane, meet, in-range}
+use lib.Seq.{getD-set-same, getD-set-other, getD-take}
+use Rattle.whole.specs.Tests.{_and_, differ, and-split}
+use Rattle.whole.specs.Sign.{plus}
+use Rattle.scope.specs.Planes.{Plane, meet}
 use Rattle.scope.specs.Section as scope
-use Rattle.theory.specs.Section.{Corner, corner, index, vertex, corners, corners-length, corners-at, put-corner, put-last}
-use Rattle.theory.specs.Section.Index.{prior}
+use Rattle.theory.specs.Section.{Corner, corner, index, corners, put-corner, put-last}
+use Rattle.theory.specs.Section.Corners.{corners-from}
 use Rattle.planes.specs.declared.Plane as struct
 use Rattle.sections.specs.declared.Place.{Place}
 use Rattle.sections.specs.declared.Signal.{Signal}
 use Rattle.sections.specs.declared.Signal.the-variants.{Nothing, B, HB}
 use Rattle.sections.specs.Values.{code, signal-is, signal-of, way-of, six, starts}
-use Rattle.sections.specs.Tables.{look, corner-at, read, said-at, last-to, put-all}
+use Rattle.sections.specs.Tables.{box-side, look, corner-at, read, said-at, last-to, put-all}
 use Rattle.sections.specs.Asked.{side-of, Looked, Puts}
-use Rattle.sections.proofs.Rules.{signal-from, code-plus}
+use Rattle.sections.proofs.Rules.{signal-from}
+use Rattle.sections.proofs.Cells.{read-none}
 use Rattle.sections.proofs.Put.{puts-none}
 
 -- ---- sides
 
 pub looked-none : (h : struct.Plane) (t : List ℤ) (sides : List ℕ) → Looked h t 0 sides 0
-looked-none h t sides = record { each = λ i l. absurd (omega arith); most = omega arith; all = λ e i l. absurd (omega arith); none = λ e i l. absurd (omega arith) }
+looked-none h t sides = record { each = λ i l. absurd (omega arith); most = omega arith; none = λ e i l. absurd (omega arith) }
 
 -- one side more: x is stored, and r counts it if it is in front
 pub looked-more : (h : struct.Plane) (t : List ℤ) (i : ℕ) (sides : List ℕ) (f x r : ℕ) → i < length sides → Looked h t i sides f → x ≡ code (side-of h t i)
@@ -49,13 +50,8 @@ looked-more h t i sides f x r l k e c = go x refl
         record {
           each = here;
           most = omega (arith, k .most);
-          all = λ m j b. by j b (i - j) refl (k .all (omega arith));
           none = λ m. absurd (omega arith);
         }
-      where
-        by : (j : ℕ) → j < i + 1 → (d : ℕ) → i - j ≡ d → ((j : ℕ) → j < i → side-of h t j ≡ plus) → side-of h t j ≡ plus
-        by j b zero p a = let s : j ≡ i = omega arith in rw s (code-plus (side-of h t i) (sym e ∙ q))
-        by j b (suc d) p a = a j (omega arith)
 
     back : (x ≡ 2 → ⊥) → Looked h t (i + 1) (set sides i x) r
     back q =
@@ -63,7 +59,6 @@ looked-more h t i sides f x r l k e c = go x refl
         record {
           each = here;
           most = omega (arith, k .most);
-          all = λ m. absurd (omega (arith, k .most));
           none = λ m j b. by j b (i - j) refl (k .none (omega arith));
         }
       where
@@ -87,6 +82,26 @@ module _ (sides : List ℕ) (t : List ℤ) (n : ℕ) where
   pub last-more : (p i prev : ℕ) (g : Signal) → prev ≡ last-to sides t n p i → g ≡ signal-is (said-at sides n i) → put-last (signal-of g) prev (corner-at t i) ≡ last-to sides t n p (i + 1)
   unfolding last-to
   last-more p i prev g e f = rw add-one (let s = signal-from (said-at sides n i) f in λ j. put-last (s j) (e j) (corner-at t i))
+
+  -- from the end: a corner that puts nothing out is passed, and another one's index is put out last
+  module _ (p left i : ℕ) (l : left ≡ suc i) (g : Signal) (f : g ≡ signal-is (said-at sides n i)) where
+    pub last-passed : g ≡ Nothing → last-to sides t n p i ≡ last-to sides t n p left
+    unfolding last-to
+    last-passed e = rw l (by (said-at sides n i) (sym e ∙ f))
+      where
+        by : (s : scope.Signal) → Nothing ≡ signal-is s → last-to sides t n p i ≡ put-last s (last-to sides t n p i) (corner-at t i)
+        by scope.nothing q = refl
+        by scope.B q = differ (cc)
+        by scope.HB q = differ (cc)
+
+    pub last-found : g ≢ Nothing → index (corner-at t i) ≡ last-to sides t n p left
+    unfolding last-to
+    last-found e = rw l (by (said-at sides n i) (λ q. e (f ∙ ap signal-is q)))
+      where
+        by : (s : scope.Signal) → s ≢ scope.nothing → index (corner-at t i) ≡ put-last s (last-to sides t n p i) (corner-at t i)
+        by scope.nothing q = absurd (q refl)
+        by scope.B q = refl
+        by scope.HB q = refl
 
   -- it is an index of the polygon, if it was one before
   pub last-below : (p top : ℕ) → p < top → ((i : ℕ) → i < n → index (corner-at t i) < top) → (i : ℕ) → i ≤ n → last-to sides t n p i < top
@@ -203,34 +218,42 @@ start-small w i l = go w i l
     go scope.along-z i l = small (six scope.along-z) tt i l
     go scope.against-z i l = small (six scope.against-z) tt i l
 
-module _ (s : Plane) (plane : ℕ → Plane) (w : scope.Way) where
-  starts-length : length (starts w) ≡ 4
-  unfolding starts six
-  starts-length = go w
-    where
-      go : (w : scope.Way) → length (take 4 (six w)) ≡ 4
-      go scope.along-x = refl
-      go scope.against-x = refl
-      go scope.along-y = refl
-      go scope.against-y = refl
-      go scope.along-z = refl
-      go scope.against-z = refl
+-- four corners, each put after the one before it
+pub four-read : (s : Plane) (a b c d : ℕ) (t t₁ t₂ t₃ t₄ : List ℤ)
+    → read t₁ 1 ≡ read t 0 ++ corner a (meet s (box-side d) (box-side a)) ∷ [] → read t₂ 2 ≡ read t₁ 1 ++ corner b (meet s (box-side a) (box-side b)) ∷ []
+    → read t₃ 3 ≡ read t₂ 2 ++ corner c (meet s (box-side b) (box-side c)) ∷ [] → read t₄ 4 ≡ read t₃ 3 ++ corner d (meet s (box-side c) (box-side d)) ∷ []
+    → read t₄ 4 ≡ corners s box-side (a ∷ b ∷ c ∷ d ∷ [])
+unfolding corners corners-from
+four-read s a b c d t t₁ t₂ t₃ t₄ e f g h =
+    h ∙ ap (λ l. l ++ corner d (meet s (box-side c) (box-side d)) ∷ []) (g ∙ ap (λ l. l ++ corner c (meet s (box-side b) (box-side c)) ∷ []) (f ∙ ap (λ l. l ++ corner b (meet s (box-side a) (box-side b)) ∷ []) (e ∙ ap (λ l. l ++ corner a (meet s (box-side d) (box-side a)) ∷ []) (read-none t))))
 
-  -- the corner i of the start
-  pub begin-more : (u u′ : List ℤ) (i p q : ℕ) (P Q : Plane) → i < 4 → read u i ≡ take i (corners s plane (starts w)) → p ≡ getD (starts w) (prior 4 i) 0 → q ≡ getD (starts w) i 0
-      → P ≡ plane p → Q ≡ plane q → read u′ (suc i) ≡ read u i ++ corner q (meet s P Q) ∷ [] → read u′ (i + 1) ≡ take (i + 1) (corners s plane (starts w))
-  begin-more u u′ i p q P Q l h a b f g e =
-      let cs = corners s plane (starts w) in
-      let d = corner 0 s in
-      let m : length cs ≡ 4 = corners-length s plane (starts w) ∙ starts-length in
-      let v = corners-at s plane d 0 (starts w) i (omega (arith, starts-length)) in
-      let n = ap (λ m. getD (starts w) (prior m i) 0) starts-length in
-      let x : corner q (meet s P Q) ≡ getD cs i d =
-      (λ j. corner (b j) (meet s ((f ∙ ap plane (a ∙ sym n)) j) ((g ∙ ap plane b) j))) ∙ sym v in
-      ap (read u′) (add-one i) ∙ e ∙ (λ j. h j ++ x j ∷ []) ∙ sym (take-suc cs i d (omega arith)) ∙ ap (λ j. take j cs) (sym (add-one i))
+-- at these indices the planes looked up are the sides of the box
+pub start-corners : (s : Plane) (hs : List ℤ) (width : ℕ) (w : scope.Way) → corners s box-side (starts w) ≡ corners s (look hs width) (starts w)
+unfolding corners corners-from starts six look
+start-corners s hs width scope.along-x = refl
+start-corners s hs width scope.against-x = refl
+start-corners s hs width scope.along-y = refl
+start-corners s hs width scope.against-y = refl
+start-corners s hs width scope.along-z = refl
+start-corners s hs width scope.against-z = refl
 
-  pub begin-all : (u : List ℤ) (i : ℕ) → i ≤ 4 → 4 ≤ i → read u i ≡ take i (corners s plane (starts w)) → read u 4 ≡ corners s plane (starts w)
-  begin-all u i l b h =
-      let e : i ≡ 4 = omega arith in
-      let m : length (corners s plane (starts w)) ≡ 4 = corners-length s plane (starts w) ∙ starts-length in
-      ap (read u) (sym e) ∙ h ∙ take-all i (corners s plane (starts w)) (omega arith)
+-- the remaining axis's minus plane and plus plane
+pub rest-first : (w : ℕ) → w < 6 → w / 2 * 2 ≡ getD (six (way-of w)) 4 0
+unfolding six way-of
+rest-first zero l = refl
+rest-first (suc zero) l = refl
+rest-first (suc (suc zero)) l = refl
+rest-first (suc (suc (suc zero))) l = refl
+rest-first (suc (suc (suc (suc zero)))) l = refl
+rest-first (suc (suc (suc (suc (suc zero))))) l = refl
+rest-first (suc (suc (suc (suc (suc (suc w)))))) l = absurd (omega arith)
+
+pub rest-second : (w : ℕ) → w < 6 → w / 2 * 2 + 1 ≡ getD (six (way-of w)) 5 0
+unfolding six way-of
+rest-second zero l = refl
+rest-second (suc zero) l = refl
+rest-second (suc (suc zero)) l = refl
+rest-second (suc (suc (suc zero))) l = refl
+rest-second (suc (suc (suc (suc zero)))) l = refl
+rest-second (suc (suc (suc (suc (suc zero))))) l = refl
+rest-second (suc (suc (suc (suc (suc (suc w)))))) l = absurd (omega arith)

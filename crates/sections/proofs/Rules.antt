@@ -1,4 +1,4 @@
--- The 27 codes and the starts: what the code's tables hold is what document 01 says, by one computed test over each table.
+-- The 27 codes: what the code's table holds is what document 01 says, by one computed test over the table. Sides, ways, and neighbours in a cycle.
 use mathlib.Core.Path.{_≡_, refl, sym, ap, _∙_}
 use mathlib.Core.Bool.{Bool, true, false}
 use mathlib.Core.List.{List, [], _∷_}
@@ -11,14 +11,14 @@ use lib.ListN.{length, getD}
 use borrow.Author.Tests.{ltb-true, le-leb, lt-leb}
 use Rattle.whole.specs.Tests.{_and_, differ, and-split, eq-true, eq-false}
 use Rattle.whole.specs.Sign.{Sign, minus, nought, plus}
-use Rattle.whole.specs.Order.{_⋖_}
 use Rattle.scope.specs.Planes.{Plane}
 use Rattle.scope.specs.Section as scope
 use Rattle.theory.specs.Section.Index.{prior, next}
 use Rattle.sections.specs.Tables.{said-at}
+use Rattle.sections.specs.Asked.{Signals}
 use Rattle.sections.specs.declared.Signal.{Signal}
 use Rattle.sections.specs.declared.Signal.the-variants.{Nothing, B, HB}
-use Rattle.sections.specs.Values.{code, sign-of, signal-is, signal-of, way-code, way-of, way-from, six, starts}
+use Rattle.sections.specs.Values.{code, sign-of, signal-code, signal-is, signal-of, way-code, way-of, way-from}
 
 -- ---- a rule of a table, at all of its entries
 
@@ -37,18 +37,13 @@ every-at f xs t k l = every-from f xs 0 k k t l (omega arith)
 
 -- ---- the 27 codes
 
-abbrev signal-code : scope.Signal → ℕ
-signal-code scope.nothing = 0
-signal-code scope.B = 1
-signal-code scope.HB = 2
-
-abbrev pub signals : List ℕ
+abbrev signals : List ℕ
 signals = 0 ∷ 0 ∷ 2 ∷ 0 ∷ 0 ∷ 2 ∷ 1 ∷ 1 ∷ 1 ∷ 0 ∷ 0 ∷ 2 ∷ 0 ∷ 0 ∷ 2 ∷ 1 ∷ 1 ∷ 1 ∷ 0 ∷ 0 ∷ 2 ∷ 0 ∷ 0 ∷ 1 ∷ 1 ∷ 1 ∷ 1 ∷ []
 
 abbrev right : ℕ → ℕ → Bool
 right k x = eqb x (signal-code (scope.table (sign-of (k / 9)) (sign-of (k / 3 % 3)) (sign-of (k % 3))))
 
-pub signals-at : (l m r : ℕ) → (l < 3) × (m < 3) × (r < 3) → getD signals (l * 9 + m * 3 + r) 0 ≡ signal-code (scope.table (sign-of l) (sign-of m) (sign-of r))
+signals-at : (l m r : ℕ) → (l < 3) × (m < 3) × (r < 3) → getD signals (l * 9 + m * 3 + r) 0 ≡ signal-code (scope.table (sign-of l) (sign-of m) (sign-of r))
 unfolding sign-of
 signals-at l m r h =
     let k : ℕ = l * 9 + m * 3 + r in
@@ -57,6 +52,9 @@ signals-at l m r h =
     let c : k % 3 ≡ r = omega arith in
     eqb→eq (getD signals k 0) (signal-code (scope.table (sign-of (k / 9)) (sign-of (k / 3 % 3)) (sign-of (k % 3)))) (every-at right signals tt k (omega arith))
     ∙ (λ t. signal-code (scope.table (sign-of (a t)) (sign-of (b t)) (sign-of (c t))))
+
+pub the-signals : Signals signals
+the-signals = record { room = omega arith; right = signals-at }
 
 module _ (s : scope.Signal) (x : ℕ) (e : x ≡ signal-code s) where
   pub told-nothing : x ≡ 0 → Nothing ≡ signal-is s
@@ -111,22 +109,7 @@ code-plus minus e = absurd (omega arith)
 code-plus nought e = absurd (omega arith)
 code-plus plus e = refl
 
--- ---- starts
-
-abbrev start-codes : List ℕ
-start-codes = 4 ∷ 3 ∷ 5 ∷ 2 ∷ 0 ∷ 1 ∷ 2 ∷ 5 ∷ 3 ∷ 4 ∷ 0 ∷ 1 ∷ 0 ∷ 5 ∷ 1 ∷ 4 ∷ 2 ∷ 3 ∷ 4 ∷ 1 ∷ 5 ∷ 0 ∷ 2 ∷ 3 ∷ 2 ∷ 1 ∷ 3 ∷ 0 ∷ 4 ∷ 5 ∷ 0 ∷ 3 ∷ 1 ∷ 2 ∷ 4 ∷ 5 ∷ []
-
-abbrev right-start : ℕ → ℕ → Bool
-right-start k x = eqb x (getD (six (way-of (k / 6))) (k % 6) 0)
-
-pub starts-at : (w i : ℕ) → (w < 6) × (i < 6) → getD start-codes (6 * w + i) 0 ≡ getD (six (way-of w)) i 0
-unfolding six way-of
-starts-at w i h =
-    let k : ℕ = 6 * w + i in
-    let a : k / 6 ≡ w = omega arith in
-    let b : k % 6 ≡ i = omega arith in
-    eqb→eq (getD start-codes k 0) (getD (six (way-of (k / 6))) (k % 6) 0) (every-at right-start start-codes tt k (omega arith))
-    ∙ (λ t. getD (six (way-of (a t))) (b t) 0)
+-- ---- ways
 
 pub way-back : (w : scope.Way) → way-of (way-code w) ≡ w
 unfolding way-of

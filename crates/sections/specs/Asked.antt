@@ -1,8 +1,8 @@
 -- What the functions are given, and what they leave: the records of their contracts.
 --     Found, Region     the plane of an index can be looked up; the support and the planes of the indices below top
 --     Polygon           the polygon in a table: the corners of the bounds that clips by gs leave of the start
---     CornerIn, SideIn, AddedIn, Sides, SidesIn   what the functions on a table are given
---     Looked            the sides of n corners, and what their count says
+--     CornerIn, SideIn, AddedIn, Signals, Sides, SidesIn   what the functions on a table are given
+--     Looked            the sides of n corners, and what it says that none are in front
 --     Puts              corners put out
 --     PairIn, StepIn, EmitIn, ClipIn              what the functions of a clip are given
 --     ClipTold, ClippedOn                         what a clip leaves
@@ -24,7 +24,7 @@ use Rattle.sections.specs.declared.Place.{Place}
 use Rattle.sections.specs.declared.Signal.{Signal}
 use Rattle.sections.specs.declared.Clipped.{Clipped}
 use Rattle.sections.specs.declared.Clipped.the-variants.{Same, Cut, Gone}
-use Rattle.sections.specs.Values.{code, signal-of}
+use Rattle.sections.specs.Values.{code, sign-of, signal-code, signal-of}
 use Rattle.sections.specs.Tables.{look, corner-at, read, indices, last-to, put-all}
 
 -- ---- planes
@@ -76,15 +76,20 @@ pub record SidesIn (h : struct.Plane) (t : List ℤ) (n : ℕ) (sides : List ℕ
 pub record Looked (h : struct.Plane) (t : List ℤ) (n : ℕ) (sides : List ℕ) (r : ℕ) : Type 0 where
   pub each : (i : ℕ) → i < n → getD sides i 0 ≡ code (side-of h t i)
   pub most : r ≤ n
-  pub all : r ≡ n → (i : ℕ) → i < n → side-of h t i ≡ plus
   pub none : r ≡ 0 → (i : ℕ) → i < n → side-of h t i ≢ plus
+
+-- a table of the 27 codes, by three sides, the first of them counting nines
+pub record Signals (signals : List ℕ) : Type 0 where
+  pub room : 27 ≤ length signals
+  pub right : (l m r : ℕ) → (l < 3) × (m < 3) × (r < 3) → getD signals (l * 9 + m * 3 + r) 0 ≡ signal-code (scope.table (sign-of l) (sign-of m) (sign-of r))
 
 -- the sides of n corners are codes
 pub record Sides (sides : List ℕ) (n : ℕ) : Type 0 where
   pub room : n ≤ length sides
   pub small : (i : ℕ) → i < n → getD sides i 0 < 3
 
-pub record LastIn (sides : List ℕ) (t : List ℤ) (n : ℕ) : Type 0 where
+pub record LastIn (signals sides : List ℕ) (t : List ℤ) (n : ℕ) : Type 0 where
+  pub table : Signals signals
   pub codes : Sides sides n
   pub corners-in : (i : ℕ) → i < n → CornerIn t i
 

@@ -1,5 +1,6 @@
 -- What the tables hold.
 --     row, look           the half-space in row i, of rows that are a width apart; the plane of an index, a side of the box below 6
+--     box-side            a side of the box, by its index
 --     number              an index, from the number that stands for it: one below 0 is no index
 --     corner-at, read     corner i of a table; its first n corners
 --     indices             their indices
@@ -33,6 +34,9 @@ box-or (suc (suc (suc zero))) r = y+
 box-or (suc (suc (suc (suc zero)))) r = z-
 box-or (suc (suc (suc (suc (suc zero))))) r = z+
 box-or (suc (suc (suc (suc (suc (suc k)))))) r = r
+
+abbrev pub box-side : ℕ → Plane
+box-side k = box-or k x-
 
 unfoldable pub look : List ℤ → ℕ → ℕ → Plane
 look hs width k = box-or k (row hs width (k - 6))

@@ -1,6 +1,7 @@
 -- What the code's numbers and enums stand for.
 --     code, sign-of     a side as the code has it, 0 behind, 1 on, 2 in front, and back
---     signal-is, signal-of   what a bound puts out, and back
+--     signal-code       what a bound puts out, in the table of the 27 codes
+--     signal-is, signal-of   and as an enum, and back
 --     way-code, way-of  a way as a number, and back
 --     six, starts       the indices of its four bounds and of the remaining axis's two planes; those of the four
 --     lawful-is         a test as the code answers it
@@ -35,6 +36,11 @@ unfoldable pub sign-of : ℕ → Sign
 sign-of zero = minus
 sign-of (suc zero) = nought
 sign-of (suc (suc n)) = plus
+
+abbrev pub signal-code : scope.Signal → ℕ
+signal-code scope.nothing = 0
+signal-code scope.B = 1
+signal-code scope.HB = 2
 
 abbrev pub signal-is : scope.Signal → Signal
 signal-is scope.nothing = Nothing

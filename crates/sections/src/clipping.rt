@@ -1,8 +1,10 @@
 // The clip of a polygon by the bound of an index.
 ghost use mathlib.Core.Path.{_≡_};
+ghost use mathlib.Core.Bool.{true, false};
 ghost use mathlib.Core.List.{[], _∷_};
 ghost use Prim.Native.Nat.{ℕ, _+_, _*_, _<_, _≤_};
 ghost use lib.ListN.{length};
+ghost use Rattle.whole.specs.Sign.{plus};
 ghost use Rattle.scope.specs.Planes.{meet};
 ghost use Rattle.theory.specs.Section.{corner, index, put-last, put-corner};
 ghost use Rattle.planes.specs.Values.{plane};
@@ -12,6 +14,7 @@ ghost use Rattle.sections.specs.Asked.{side-of, SideIn, SidesIn, Looked,
 use crate::Clipped;
 use crate::Place;
 use crate::Signal;
+use crate::codes::SIGNALS;
 use crate::codes::said;
 use crate::table::bound;
 use crate::table::copy;
@@ -33,6 +36,20 @@ pub fn side_at(h: Plane, t: &[i64], i: usize) -> u8
         Side::On => 1,
         Side::Front => 2,
     }
+}
+
+// Whether the vertices of the first n corners all lie in front of h.
+pub fn all_front(h: Plane, t: &[i64], n: usize) -> bool
+    requires { ⌜ ((i : ℕ) → i < n → SideIn h (now t) i) ⌝ }
+    ensures yes { λ r. ⌜ (r ≡ true → (i : ℕ) → i < n → side-of h (now (t .entry)) i ≡ plus) ⌝ }
+    ensures no { λ r. ⌜ (r ≡ false → ((i : ℕ) → i < n → side-of h (now (t .entry)) i ≡ plus) → ⊥) ⌝ }
+{
+    for i in 0..n {
+        if side_at(h, t, i) != 2 {
+            return false;
+        }
+    }
+    true
 }
 
 // The sides of the first n corners, and how many of them are in front.
@@ -60,28 +77,19 @@ pub fn front_more(s: u8, fronts: usize) -> usize
     fronts
 }
 
-// The index put out last by the n corners.
-pub fn last_out(sides: &[u8], t: &[i64], n: usize) -> usize
-    requires { ⌜ LastIn (now sides) (now t) n ⌝ }
+// The index put out last by the n corners: that of the last corner that puts anything out.
+pub fn last_out(signals: &[u8], sides: &[u8], t: &[i64], n: usize) -> usize
+    requires { ⌜ LastIn (now signals) (now sides) (now t) n ⌝ }
     ensures { λ r. ⌜ r ≡ last-to (now (sides .entry)) (now (t .entry)) n 0 n ⌝ }
 {
-    let mut prev: usize = 0;
-    for i in 0..n {
-        prev = last_after(said(sides, n, i), t, i, prev);
+    let mut left = n;
+    while 0 < left {
+        left -= 1;
+        let Signal::Nothing = said(signals, sides, n, left) else {
+            return index_at(t, left);
+        };
     }
-    prev
-}
-
-// The index put out last, after corner i.
-pub fn last_after(g: Signal, t: &[i64], i: usize, prev: usize) -> usize
-    requires { ⌜ CornerIn (now t) i ⌝ }
-    ensures { λ r. ⌜ r ≡ put-last (signal-of g) prev (corner-at (now (t .entry)) i) ⌝ }
-{
-    match g {
-        Signal::Nothing => prev,
-        Signal::B => index_at(t, i),
-        Signal::HB => index_at(t, i),
-    }
+    0
 }
 
 // Puts corner i out as it is.
@@ -157,10 +165,22 @@ pub fn emit(
     requires { ⌜ EmitIn (plane s) (now hs) width k (now t) n (now sides) (now out) ⌝ }
     ensures { λ r. ⌜ Emitted (plane s) (look (now (hs .entry)) width) k (now (t .entry)) n (now (sides .entry)) (now (out .exit)) r ⌝ }
 {
+    let signals = SIGNALS;
     let mut at: usize = 0;
-    let mut prev = last_out(sides, t, n);
+    let mut prev = last_out(&signals, sides, t, n);
     for i in 0..n {
-        let p = step(s, hs, width, k, said(sides, n, i), t, i, out, at, prev);
+        let p = step(
+            s,
+            hs,
+            width,
+            k,
+            said(&signals, sides, n, i),
+            t,
+            i,
+            out,
+            at,
+            prev,
+        );
         at = p.at;
         prev = p.prev;
     }
@@ -168,6 +188,7 @@ pub fn emit(
 }
 
 // The clip of the n corners in t by the bound of index k, put out into another table.
+// Most clips leave the polygon as it is: these are told before a table of sides is made.
 pub fn clip(
     s: Plane,
     hs: &[i64],
@@ -180,11 +201,12 @@ pub fn clip(
     requires { ⌜ ClipIn (plane s) (now hs) width k (now t) n (now out) ⌝ }
     ensures { λ r. ⌜ ClipTold (plane s) (look (now (hs .entry)) width) k (now (t .entry)) n (now (out .exit)) r ⌝ }
 {
-    let mut sides = [0u8; 135];
-    let fronts = sides_of(bound(hs, width, k), t, n, &mut sides);
-    if fronts == n {
+    let h = bound(hs, width, k);
+    if all_front(h, t, n) {
         return Clipped::Same;
     }
+    let mut sides = [0u8; 135];
+    let fronts = sides_of(h, t, n, &mut sides);
     if fronts == 0 {
         return Clipped::Gone;
     }

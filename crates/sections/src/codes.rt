@@ -6,11 +6,12 @@ ghost use Rattle.scope.specs.Section.{table};
 ghost use Rattle.theory.specs.Section.Index.{prior as the-prior, next as the-next};
 ghost use Rattle.sections.specs.Values.{sign-of, signal-is};
 ghost use Rattle.sections.specs.Tables.{said-at};
-ghost use Rattle.sections.specs.Asked.{Sides};
+ghost use Rattle.sections.specs.Asked.{Signals, Sides};
 use crate::Signal;
 
 // By three sides, the first of them counting nines: 0 is nothing, 1 B and 2 HB.
-const SIGNALS: [u8; 27] = [
+// A constant table is built anew at each use, so a clip takes it once and lends it to the functions below.
+pub const SIGNALS: [u8; 27] = [
     0, // ---
     0, // --0
     2, // --+
@@ -41,12 +42,12 @@ const SIGNALS: [u8; 27] = [
 ];
 
 // What three sides say.
-pub fn signal(l: u8, m: u8, r: u8) -> Signal
-    requires { ⌜ (l < 3) × (m < 3) × (r < 3) ⌝ }
+pub fn signal(signals: &[u8], l: u8, m: u8, r: u8) -> Signal
+    requires { ⌜ Signals (now signals) × (l < 3) × (m < 3) × (r < 3) ⌝ }
     ensures { λ s. ⌜ s ≡ signal-is (table (sign-of l) (sign-of m) (sign-of r)) ⌝ }
 {
     let k = l as usize * 9 + m as usize * 3 + r as usize;
-    let s = SIGNALS[k];
+    let s = signals[k];
     if s == 0 {
         return Signal::Nothing;
     }
@@ -79,9 +80,9 @@ pub fn next(n: usize, i: usize) -> usize
 }
 
 // What the sides of n vertices say of bound i.
-pub fn said(sides: &[u8], n: usize, i: usize) -> Signal
-    requires { ⌜ Sides (now sides) n × (i < n) ⌝ }
+pub fn said(signals: &[u8], sides: &[u8], n: usize, i: usize) -> Signal
+    requires { ⌜ Signals (now signals) × Sides (now sides) n × (i < n) ⌝ }
     ensures { λ r. ⌜ r ≡ signal-is (said-at (now (sides .entry)) n i) ⌝ }
 {
-    signal(sides[prior(n, i)], sides[i], sides[next(n, i)])
+    signal(signals, sides[prior(n, i)], sides[i], sides[next(n, i)])
 }

@@ -5,43 +5,14 @@ ghost use Prim.Native.Nat.{ℕ, _+_, _*_, _<_, _≤_};
 ghost use lib.IntN.{pos};
 ghost use lib.ListN.{length, getD};
 ghost use lib.Seq.{sets};
-ghost use Rattle.scope.specs.Cells.{x-};
 ghost use Rattle.scope.specs.Answers.{flat-planes};
 ghost use Rattle.theory.specs.Section.{index, vertex};
 ghost use Rattle.theory.specs.Section.Witness.{added as the-added};
 ghost use Rattle.planes.specs.Values.{plane, meeting};
-ghost use Rattle.sections.specs.Tables.{row as the-row, box-or, look, corner-at};
+ghost use Rattle.sections.specs.Tables.{row as the-row, box-side, look, corner-at};
 ghost use Rattle.sections.specs.Asked.{Found, CornerIn, AddedIn};
 use planes::Meeting;
 use planes::Plane;
-
-// The sides of the box, four numbers each.
-const BOX: [i64; 24] = [
-    1,
-    0,
-    0,
-    30000,
-    -1,
-    0,
-    0,
-    30000,
-    0,
-    1,
-    0,
-    30000,
-    0,
-    -1,
-    0,
-    30000,
-    0,
-    0,
-    1,
-    30000,
-    0,
-    0,
-    -1,
-    30000,
-];
 
 // The half-space in row i, of rows that are width numbers apart.
 pub fn row(hs: &[i64], width: usize, i: usize) -> Plane
@@ -57,16 +28,48 @@ pub fn row(hs: &[i64], width: usize, i: usize) -> Plane
     }
 }
 
-// A side of the box.
+// A side of the box. By a match: a constant table would be built anew on the stack at each call.
 pub fn box_side(k: usize) -> Plane
     requires { ⌜ k < 6 ⌝ }
-    ensures { λ r. ⌜ plane r ≡ box-or k x- ⌝ }
+    ensures { λ r. ⌜ plane r ≡ box-side k ⌝ }
 {
-    Plane {
-        a: BOX[4 * k],
-        b: BOX[4 * k + 1],
-        c: BOX[4 * k + 2],
-        d: BOX[4 * k + 3],
+    match k {
+        0 => Plane {
+            a: 1,
+            b: 0,
+            c: 0,
+            d: 30000,
+        },
+        1 => Plane {
+            a: -1,
+            b: 0,
+            c: 0,
+            d: 30000,
+        },
+        2 => Plane {
+            a: 0,
+            b: 1,
+            c: 0,
+            d: 30000,
+        },
+        3 => Plane {
+            a: 0,
+            b: -1,
+            c: 0,
+            d: 30000,
+        },
+        4 => Plane {
+            a: 0,
+            b: 0,
+            c: 1,
+            d: 30000,
+        },
+        _ => Plane {
+            a: 0,
+            b: 0,
+            c: -1,
+            d: 30000,
+        },
     }
 }
 

@@ -1,5 +1,6 @@
 -- What follows from the promises of reading and writing.
 --     read-unique, write-unique     no second answer, and no second table, meets them
+--     Given, read-given             a text that was read
 --     read-written                  a text read and written again is the same text
 --     written-read                  tables written and read again are the same tables
 --     read-refusal, write-refusal   a refusal leaves every table all zeros
@@ -43,14 +44,14 @@ write-unique h k = (h .answer ∙ sym (k .answer), h .text ∙ sym (k .text), h 
 worked : {A : Type 0} {work : ℕ} (a b : A) → stated ≤ work → cond (leb stated work) a b ≡ a
 worked {work = work} a b h = ap (λ c. cond c a b) (le-leb stated work h)
 
-record Given (t : List ℕ) (r : Rooms) (work : ℕ) (s : Solid) : Type 0 where
+pub record Given (t : List ℕ) (r : Rooms) (work : ℕ) (s : Solid) : Type 0 where
   pub is : Tables
   pub counts : s ≡ solid-of is
   pub judged : judge r t ≡ accepted is
   pub told : read-answer work r t ≡ given is
 
 -- a text that was read
-read-given : {t : List ℕ} {r : Rooms} {work : ℕ} {s : Solid} → Judgement.the-variants.Sound s ≡ judgement (verdict work r t) → Given t r work s
+pub read-given : {t : List ℕ} {r : Rooms} {work : ℕ} {s : Solid} → Judgement.the-variants.Sound s ≡ judgement (verdict work r t) → Given t r work s
 unfolding read-answer
 read-given {t} {r} {work} {s} e = by (leb stated work) refl (judge r t) refl e
   where

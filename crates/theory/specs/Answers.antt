@@ -5,6 +5,7 @@
 --     merge-some, merge-answer-unique    the merge of lent tables
 --     form-some, form-answer-unique      the normal form
 --     text-some, text-unique             the merge of a text
+--     form-text-some, form-text-unique   the normal form of a text
 use mathlib.Core.Path.{_≡_, refl, sym, ap, subst, _∙_}
 use mathlib.Core.Bool.{Bool, true, false}
 use mathlib.Core.List.{List}
@@ -17,11 +18,12 @@ use Rattle.scope.specs.Solids.{Tree, Tables, tables-of, LawfulTree, Reply}
 use Rattle.scope.specs.Cells.{Operation, Merged}
 use Rattle.scope.specs.Text.{operation-code}
 use Rattle.scope.specs.Normal.{NormalForm}
-use Rattle.scope.specs.Judging.{Rooms, Verdict, accepted, refusal, Lent, judge-lent, MergeInput, order, order-refused, known, judge-merge}
-use Rattle.scope.specs.Answers.{Answer, refused, WithWork, short-work, enough-work, point-ok, PointBy, bad-solid, bad-point, told, PointAnswer, tree-answer, MergeBy, no-operation, a-refused, b-refused, merged, MergeAnswer, FormBy, solid-refused, formed, FormAnswer, printed, operand-rooms, program-rooms, MergeText, unread, merged-text}
+use Rattle.scope.specs.Judging.{Rooms, Verdict, accepted, refusal, Lent, judge-lent, MergeInput, order, order-refused, known, judge, judge-merge}
+use Rattle.scope.specs.Answers.{Answer, refused, WithWork, short-work, enough-work, point-ok, PointBy, bad-solid, bad-point, told, PointAnswer, tree-answer, MergeBy, no-operation, a-refused, b-refused, merged, MergeAnswer, FormBy, solid-refused, formed, FormAnswer, printed, operand-rooms, program-rooms, MergeText, unread, merged-text, FormText, formed-text}
 use Rattle.theory.specs.Text.Build.{tree-of}
 use Rattle.theory.specs.Text.Trees.{LawfulTables, lawful-back, tree-tables, tables-tree}
 use Rattle.theory.specs.Text.MergeInput.{operation-of, operation-known, operation-one, merge-read}
+use Rattle.theory.specs.Text.Judge.{judge-read}
 use Rattle.theory.specs.Text.Lent.{lent-taken}
 use Rattle.theory.specs.Theorems.{merge, merge-unique, form, form-unique}
 
@@ -33,7 +35,7 @@ pub record Sound (v : Verdict) : Type 0 where
 pub lent-sound : (A : Lent) → Sound (judge-lent A)
 lent-sound A = record { lawful = λ a e. lent-taken (A .planes) (A .nodes) (A .root) a e .1 }
 
-sound-tables : {a : Tables} → LawfulTables a → Sound (accepted a)
+pub sound-tables : {a : Tables} → LawfulTables a → Sound (accepted a)
 sound-tables {a} l = record { lawful = λ b e. subst LawfulTables (same e) l }
   where
     same : {b : Tables} → accepted a ≡ accepted b → a ≡ b
@@ -65,7 +67,7 @@ test false f g = g (λ t. t)
 with-some : {A : Type 0} (work : ℕ) {P : Answer A → Type 0} → (r : Answer A) × P r → (r : Answer A) × WithWork work P r
 with-some work p = test (leb stated work) (λ t. (p .0, enough-work t (p .1))) (λ n. (refused 8, short-work n))
 
-with-unique : {A : Type 0} {work : ℕ} {P : Answer A → Type 0} → ((q r : Answer A) → P q → P r → q ≡ r) → {q r : Answer A} → WithWork work P q → WithWork work P r → q ≡ r
+pub with-unique : {A : Type 0} {work : ℕ} {P : Answer A → Type 0} → ((q r : Answer A) → P q → P r → q ≡ r) → {q r : Answer A} → WithWork work P q → WithWork work P r → q ≡ r
 with-unique f (short-work n) (short-work m) = refl
 with-unique f (short-work n) (enough-work t p) = absurd (n t)
 with-unique f (enough-work t p) (short-work n) = absurd (n t)
@@ -116,7 +118,7 @@ module _ (s : Rooms) (o : ℕ) {A B : Verdict} (a-sound : Sound A) (b-sound : So
       let h : y ≡ x = operation-one y x (j ∙ sym i) in
       merge-unique x (solid-lawful a-sound d) (solid-lawful b-sound e) m (subst (λ z. Merged z a b t′) h (subst (λ z. Merged y a z t′) g (subst (λ z. Merged y z b′ t′) f m′)))
 
-  merge-by-unique : (q r : Answer Tables) → MergeBy s o A B q → MergeBy s o A B r → q ≡ r
+  pub merge-by-unique : (q r : Answer Tables) → MergeBy s o A B q → MergeBy s o A B r → q ≡ r
   merge-by-unique q r (no-operation n) (no-operation m) = refl
   merge-by-unique q r (no-operation n) (a-refused k e) = absurd (n k)
   merge-by-unique q r (no-operation n) (b-refused a k d e) = absurd (n k)
@@ -143,26 +145,30 @@ module _ (s : Rooms) (o : ℕ) (A B : Lent) where
 
 -- ---- normal forms
 
-module _ (s : Rooms) (A : Lent) where
-  pub form-some : (work : ℕ) → (r : Answer Tables) × FormAnswer work s A r
-  form-some work = with-some work (either (judge-lent A) yes-solid (λ n l e. (refused n, solid-refused e)))
+module _ (s : Rooms) {A : Verdict} (sound : Sound A) where
+  form-by : (r : Answer Tables) × FormBy s A r
+  form-by = either A yes-solid (λ n l e. (refused n, solid-refused e))
     where
-      yes-solid : (a : Tables) → judge-lent A ≡ accepted a → (r : Answer Tables) × FormBy s (judge-lent A) r
+      yes-solid : (a : Tables) → A ≡ accepted a → (r : Answer Tables) × FormBy s A r
       yes-solid a e =
-          let t = solid (lent-sound A) a e in
-          let f = form (solid-lawful (lent-sound A) (t .1)) in
+          let t = solid sound a e in
+          let f = form (solid-lawful sound (t .1)) in
           (tree-answer s (f .0), formed (t .0) (f .0) (t .1) (f .1))
 
-  form-by-unique : (q r : Answer Tables) → FormBy s (judge-lent A) q → FormBy s (judge-lent A) r → q ≡ r
+  pub form-by-unique : (q r : Answer Tables) → FormBy s A q → FormBy s A r → q ≡ r
   form-by-unique q r (solid-refused d) (solid-refused e) = cc
   form-by-unique q r (solid-refused d) (formed a t e n) = differ (cc)
   form-by-unique q r (formed a t d n) (solid-refused e) = differ (cc)
   form-by-unique q r (formed a t d n) (formed b u e m) =
-      let f : b ≡ a = solid-unique (lent-sound A) e d in
-      ap (tree-answer s) (form-unique (solid-lawful (lent-sound A) d) n (subst (λ c. NormalForm c u) f m))
+      let f : b ≡ a = solid-unique sound e d in
+      ap (tree-answer s) (form-unique (solid-lawful sound d) n (subst (λ c. NormalForm c u) f m))
+
+module _ (s : Rooms) (A : Lent) where
+  pub form-some : (work : ℕ) → (r : Answer Tables) × FormAnswer work s A r
+  form-some work = with-some work (form-by s (lent-sound A))
 
   pub form-answer-unique : {work : ℕ} {q r : Answer Tables} → FormAnswer work s A q → FormAnswer work s A r → q ≡ r
-  form-answer-unique = with-unique form-by-unique
+  form-answer-unique = with-unique (form-by-unique s (lent-sound A))
 
 -- ---- the merge of a text
 
@@ -187,3 +193,14 @@ module _ (t : List ℕ) where
       let k : f ≡ b = cc in
       ap printed (merge-by-unique program-rooms o (sounds d .0) (sounds d .1) q r m
       (subst (λ z. MergeBy program-rooms z (accepted a) (accepted b) r) i (subst (λ z. MergeBy program-rooms p (accepted z) (accepted b) r) j (subst (λ z. MergeBy program-rooms p (accepted c) (accepted z) r) k n))))
+
+-- ---- the normal form of a text
+
+pub text-sound : (s : Rooms) (t : List ℕ) → Sound (judge s t)
+text-sound s t = record { lawful = λ a e. judge-read s t a e .lawful }
+
+pub form-text-some : (t : List ℕ) → (out : List ℕ) × FormText t out
+form-text-some t = let r = form-by program-rooms (text-sound operand-rooms t) in (printed (r .0), formed-text (r .1))
+
+pub form-text-unique : {t q r : List ℕ} → FormText t q → FormText t r → q ≡ r
+form-text-unique {t} (formed-text {r = x} m) (formed-text {r = y} n) = ap printed (form-by-unique program-rooms (text-sound operand-rooms t) x y m n)

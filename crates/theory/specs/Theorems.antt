@@ -5,18 +5,20 @@
 --     cells         missed-one-side, halves, told, path-128
 --     merges        merge, merge-unique, merge-points, merge-tight, merge-rows, merge-lawful, merge-planes
 --     texts         text-of-injective, judge-tree, judge-read, judge-only, judge-refused, refused-judge, refused-one   (page Text)
---     normal forms  form, form-unique, form-points, form-planes, form-again, form-merged, same-form-same-space
+--     normal forms  form, form-unique, form-points, form-planes, form-lawful, form-single, form-again, form-merged, same-form-same-space, same-text-same-space
 -- Endings: -unique, no second one; -points, the answers of points off the planes; -tight, no plane is kept that misses its cell.
-use mathlib.Core.Path.{_≡_, refl, sym}
+use mathlib.Core.Path.{_≡_, refl, sym, ap}
 use mathlib.Core.List.{List, [], _∷_, _++_}
 use mathlib.Core.Logic.{_⊎_, inl, inr, _↔_}
 use Prim.Native.Nat.{ℕ, _+_, _*_, _≤_}
 use native.Mathlib.Omega.{arith}
-use lib.ListN.{length-append}
+use lib.ListN.{length, length-append}
 use Rattle.whole.specs.Members.{_∈_, in-left, in-right, in-either}
 use Rattle.scope.specs.Planes.{Plane, Point, flip, Lawful}
-use Rattle.scope.specs.Solids.{Mark, OUT, Tree, leaf, rows, planes, ascending, LawfulTree, answer}
-use Rattle.scope.specs.Cells.{Inside, box, Cuts, AllFront, AllBack, Off, Operation, operate, Merged}
+use Rattle.scope.specs.Limits.{most-planes, most-nodes}
+use Rattle.scope.specs.Solids.{Mark, IN, OUT, Tree, leaf, rows, planes, ascending, LawfulTree, walk, front, answer}
+use Rattle.scope.specs.Text.{text-of}
+use Rattle.scope.specs.Cells.{Inside, box, Cuts, AllFront, AllBack, Off, Operation, union, operate, Merged}
 use Rattle.scope.specs.Normal.{space, both, Boundary, Normal, NormalForm}
 use Rattle.theory.specs.Planes.General.{Nonzero, General, general-sub}
 use Rattle.theory.specs.Planes.Lists.{ascending-law, ascending-same}
@@ -116,9 +118,10 @@ module _ (o : Mark → Mark → Mark) {A B : Tree} (l : LawfulTree A) (k : Lawfu
   pub form-both-unique : {r s : Tree} → Normal (both o A B) box r → Normal (both o A B) box s → r ≡ s
   form-both-unique = normal-one (both o A B) (general l k) box-origin
 
-no-planes : LawfulTree (leaf OUT)
+-- the empty solid
+pub empty-lawful : LawfulTree (leaf OUT)
 unfolding ascending rows
-no-planes = record { each = λ p m. elim m [ ]; few-planes = omega arith; few-rows = omega arith }
+empty-lawful = record { each = λ p m. elim m [ ]; few-planes = omega arith; few-rows = omega arith }
 
 module _ {A : Tree} (l : LawfulTree A) where
   alone : (p : Plane) → p ∈ ((planes A ++ []) ++ planes A) → p ∈ planes A
@@ -127,7 +130,7 @@ module _ {A : Tree} (l : LawfulTree A) where
   -- every solid has a normal form
   pub form : (r : Tree) × NormalForm A r
   form =
-      let f = form-both (λ a b. a) {B = leaf OUT} l no-planes in (
+      let f = form-both (λ a b. a) {B = leaf OUT} l empty-lawful in (
         f .0,
         normal-same (both (λ a b. a) A (leaf OUT)) (space A) (general-sub (planes A) ((planes A ++ []) ++ planes A) (lawful-general (l .each)) alone)
             (record { alike = λ X i y z. refl }) (λ X i. i) (f .1),
@@ -145,6 +148,23 @@ module _ {A : Tree} (l : LawfulTree A) where
     pub form-planes : (p : Plane) → (p ∈ planes r) ↔ Boundary (space A) p
     form-planes p = (normal-planes (space A) n p, normal-uses (space A) (lawful-general (l .each)) n p)
 
+    -- it is a solid, if it is small
+    pub form-lawful : rows r ≤ most-nodes → length (ascending (planes r)) ≤ most-planes → LawfulTree r
+    form-lawful f g = record { each = λ p m. l .each p (normal-planes (space A) n p m .member); few-planes = g; few-rows = f }
+
+    -- it is the form of the solid's union with the empty solid
+    pub form-single : Normal (both (operate union) A (leaf OUT)) box r
+    unfolding operate walk
+    form-single = normal-same (space A) (both (operate union) A (leaf OUT)) (general-sub (planes A) (planes A ++ (planes A ++ [])) (lawful-general (l .each)) alone-too)
+        (record { alike = λ X i y z. joins (walk A (front X)) }) (λ X i. i) n
+      where
+        alone-too : (p : Plane) → p ∈ (planes A ++ (planes A ++ [])) → p ∈ planes A
+        alone-too = either (planes A) (planes A ++ []) {Q = λ p. p ∈ planes A} (λ p m. m) (either (planes A) [] {Q = λ p. p ∈ planes A} (λ p m. m) (λ p m. elim m [ ]))
+
+        joins : (m : Mark) → m ≡ operate union m OUT
+        joins IN = refl
+        joins OUT = refl
+
     -- and the normal form of it is itself
     pub form-again : NormalForm r r
     form-again = normal-same (space A) (space r) (lawful-general (either (planes A) (planes r) (l .each) (λ p m. l .each p (normal-planes (space A) n p m .member))))
@@ -160,3 +180,7 @@ form-merged o {A} {B} {r} l k w n = normal-same (both (operate o) A B) (space r)
 module _ {A B : Tree} (l : LawfulTree A) (k : LawfulTree B) {r s : Tree} (n : NormalForm A r) (m : NormalForm B s) where
   pub same-form-same-space : (r ≡ s) ↔ ((X : Point) → Inside box X → Off (planes A) X → Off (planes B) X → answer A X ≡ answer B X)
   same-form-same-space = let e = same-form (space A) (space B) (general l k) n m in (λ d. e .0 d .alike, λ f. e .1 (record { alike = f }))
+
+  -- and for texts
+  pub same-text-same-space : LawfulTree r → LawfulTree s → (text-of r ≡ text-of s) ↔ ((X : Point) → Inside box X → Off (planes A) X → Off (planes B) X → answer A X ≡ answer B X)
+  same-text-same-space lr ls = (λ e. same-form-same-space .0 (text-of-injective r s lr ls e), λ f. ap text-of (same-form-same-space .1 f))

@@ -46,7 +46,7 @@ pub fn number_of(a: &[u16], b: &[u16], numbers: &[u16], mark: u16, row: u16) -> 
 // ---- putting out
 
 // A row, put out as row `next`: 8 where the lent rows, or 1,000, are full.
-fn emit(out: &mut [u16], next: usize, n: u16, f: u16, b: u16) -> Walked
+pub fn emit(out: &mut [u16], next: usize, n: u16, f: u16, b: u16) -> Walked
     requires { ⌜ Room (now out) next ⌝ }
     ensures { λ r. ⌜ Put (now (out .entry)) (now (out .exit)) next n f b r ⌝ }
 {

@@ -1,1 +1,3 @@
+pub mod TextCalls
 pub mod TextMerge
+pub mod TextForm

@@ -1,93 +1,94 @@
--- What follows from the promise of the merge of a text.
---     text-told-unique     no second answer, and no second table, meets it
---     given-lawful         a merged solid that is given is lawful
---     program-text         with room for the longest text of a solid, what is shown is what document 01's merge program prints
+-- What follows from the promises of the merge and of the normal form of a text.
+--     text-told-unique     no second answer, and no second table, meets them
+--     merge-lawful, form-given-lawful   a solid that is given is lawful
+--     Prints, program-text   with room for the longest text of a solid, what is shown is what document 01's program prints
+--     Normals, same-bytes-same-space   demand 3: two normal forms are the same bytes exactly when the solids are the same space
 use mathlib.Core.Path.{_≡_, refl, sym, ap, subst, _∙_}
 use mathlib.Core.Bool.{Bool, true, false, cond}
 use mathlib.Core.List.{List}
+use mathlib.Core.Logic.{_↔_}
 use Prim.Native.Nat.{ℕ, _-_, _≤_}
 use native.Mathlib.Omega.{arith}
 use lib.Dec.{T, leb}
-use borrow.Author.Tests.{le-leb, leb-true}
+use borrow.Author.Tests.{le-leb}
 use lib.IntN.{ℤ}
 use lib.ListN.{length, take, replicate}
 use lib.Seq.{take-append-seam}
-use Rattle.whole.specs.Tests.{_and_, and-true, differ}
-use Rattle.scope.specs.Limits.{stated, most-planes, most-nodes}
-use Rattle.scope.specs.Solids.{Tree, rows, planes, ascending, Tables, tables, tables-of}
-use Rattle.scope.specs.Text.{text, refusal-line}
-use Rattle.scope.specs.Judging.{Rooms, accepted, judge-lent}
-use Rattle.scope.specs.Answers.{Answer, given, refused, flat-planes, flat-nodes, left, WithWork, short-work, enough-work, fits-rooms, tree-answer, MergeBy, no-operation, a-refused, b-refused, merged, printed, MergeText, unread as program-unread, merged-text as program-merged, operand-rooms, program-rooms}
-use Rattle.theory.specs.Answers.{Sound, solid-lawful, merge-answer-unique}
-use Rattle.theory.specs.Theorems.{merge-lawful}
-use Rattle.theory.specs.Text.Lent.{lent, lent-accepted}
+use Rattle.whole.specs.Tests.{differ}
+use Rattle.scope.specs.Limits.{stated}
+use Rattle.scope.specs.Planes.{Point}
+use Rattle.scope.specs.Solids.{Tree, planes, Tables, tables-of, LawfulTree, answer as answers}
+use Rattle.scope.specs.Cells.{Inside, box, Off}
+use Rattle.scope.specs.Normal.{NormalForm}
+use Rattle.scope.specs.Text.{text, text-of, refusal-line}
+use Rattle.scope.specs.Judging.{Rooms, Verdict, accepted, judge}
+use Rattle.scope.specs.Answers.{Answer, given, refused, left, WithWork, short-work, enough-work, MergeBy, no-operation, a-refused, b-refused, merged, FormBy, solid-refused, formed, printed, MergeText, FormText, operand-rooms, program-rooms}
+use Rattle.scope.specs.Answers as scope
+use Rattle.theory.specs.Answers.{Sound, sound-tables, solid-lawful, with-unique, merge-by-unique, form-by-unique, text-sound}
+use Rattle.theory.specs.Theorems as theorems
+use Rattle.theory.specs.Theorems.{form-lawful, same-text-same-space}
 use Rattle.theory.specs.Text.MergeInput.{merge-read}
 use Rattle.theory.specs.Text.Sizes.{text-length}
 use Rattle.theory.specs.Text.Trees.{LawfulTables, tables-lawful}
 use Rattle.solids.specs.declared.Written as Written
 use Rattle.solids.specs.Writing.{wrote, itself}
-use Rattle.zones.specs.Promises.{in-room, TextAnswer, unread, merged-text, MergeTextTold}
+use Rattle.results.specs.Follows.{given-tree}
+use Rattle.outputs.specs.Outputs.{in-room}
+use Rattle.zones.specs.Promises.{Job, merging, forming, MergedText, unread, merged-text, FormedText, formed-text, AnswerTo, TextTold}
 
 -- ---- no second answer
 
-enough : T (leb stated stated)
-enough = tt
-
--- two merges of the same lawful tables
-one-merge : (s : Rooms) (o : ℕ) (a b : Tables) → LawfulTables a → LawfulTables b → {q r : Answer Tables} → MergeBy s o (accepted a) (accepted b) q → MergeBy s o (accepted a) (accepted b) r → q ≡ r
-one-merge s o (tables ps es u) (tables qs ds v) la lb {q} {r} h k =
-    merge-answer-unique s o (lent (flat-planes ps) (flat-nodes es) u) (lent (flat-planes qs) (flat-nodes ds) v) {work = stated} (enough-work enough (as-lent h)) (enough-work enough (as-lent k))
-  where
-    as-lent : {x : Answer Tables} → MergeBy s o (accepted (tables ps es u)) (accepted (tables qs ds v)) x → MergeBy s o (judge-lent (lent (flat-planes ps) (flat-nodes es) u)) (judge-lent (lent (flat-planes qs) (flat-nodes ds) v)) x
-    as-lent {x} = subst (λ y. y) (λ i. MergeBy s o (sym (lent-accepted ps es u la) i) (sym (lent-accepted qs ds v lb) i) x)
-
 module _ {t : List ℕ} {room : ℕ} where
-  one-answer : {q r : Answer (List ℕ)} → TextAnswer t room q → TextAnswer t room r → q ≡ r
-  one-answer (unread d) (unread e) = cc
-  one-answer (unread d) (merged-text e m) = differ (cc)
-  one-answer (merged-text d m) (unread e) = differ (cc)
-  one-answer (merged-text {o = o} {a = a} {b = b} {r = q} d m) (merged-text {o = p} {a = c} {b = f} {r = r} e n) =
+  one-merge : (q r : Answer (List ℕ)) → MergedText t room q → MergedText t room r → q ≡ r
+  one-merge x y (unread d) (unread e) = cc
+  one-merge x y (unread d) (merged-text e m) = differ (cc)
+  one-merge x y (merged-text d m) (unread e) = differ (cc)
+  one-merge x y (merged-text {o = o} {a = a} {b = b} {r = q} d m) (merged-text {o = p} {a = c} {b = f} {r = r} e n) =
       let i : p ≡ o = cc in
       let j : c ≡ a = cc in
       let k : f ≡ b = cc in
       let l = merge-read operand-rooms t o a b d .lawful in
-      ap (in-room room) (one-merge program-rooms o a b (l .lawful-a) (l .lawful-b) m (subst (λ z. MergeBy program-rooms z (accepted a) (accepted b) r) i (subst (λ z. MergeBy program-rooms p (accepted z) (accepted b) r) j (subst (λ z. MergeBy program-rooms p (accepted c) (accepted z) r) k n))))
+      ap (in-room room) (merge-by-unique program-rooms o (sound-tables (l .lawful-a)) (sound-tables (l .lawful-b)) q r m (subst (λ z. MergeBy program-rooms z (accepted a) (accepted b) r) i (subst (λ z. MergeBy program-rooms p (accepted z) (accepted b) r) j (subst (λ z. MergeBy program-rooms p (accepted c) (accepted z) r) k n))))
 
-with-one : {work : ℕ} {P : Answer (List ℕ) → Type 0} {q r : Answer (List ℕ)} → ((x y : Answer (List ℕ)) → P x → P y → x ≡ y) → WithWork work P q → WithWork work P r → q ≡ r
-with-one f (short-work n) (short-work m) = refl
-with-one f (short-work n) (enough-work t p) = absurd (n t)
-with-one f (enough-work t p) (short-work n) = absurd (n t)
-with-one f (enough-work t p) (enough-work u q) = f _ _ p q
+  one-form : (q r : Answer (List ℕ)) → FormedText t room q → FormedText t room r → q ≡ r
+  one-form x y (formed-text {r = q} m) (formed-text {r = r} n) = ap (in-room room) (form-by-unique program-rooms (text-sound operand-rooms t) q r m n)
 
-pub text-told-unique : {t out out′ out″ : List ℕ} {w w′ w″ : List ℤ} {i j : Written.Written} → MergeTextTold t out out′ w w′ i → MergeTextTold t out out″ w w″ j → (i ≡ j) × (out′ ≡ out″) × (w′ ≡ w″)
-text-told-unique {t} {out} h k =
-    let e : h .answer ≡ k .answer = with-one (λ x y. one-answer) (h .exact) (k .exact) in
+one-answer : (job : Job) (t : List ℕ) (room : ℕ) (q r : Answer (List ℕ)) → AnswerTo job t room q → AnswerTo job t room r → q ≡ r
+one-answer merging t room = one-merge
+one-answer forming t room = one-form
+
+pub text-told-unique : {job : Job} {t out out′ out″ : List ℕ} {w w′ w″ : List ℤ} {i j : Written.Written} → TextTold job t out out′ w w′ i → TextTold job t out out″ w w″ j → (i ≡ j) × (out′ ≡ out″) × (w′ ≡ w″)
+text-told-unique {job} {t} {out} h k =
+    let e : h .answer ≡ k .answer = with-unique (one-answer job t (length out)) (h .exact) (k .exact) in
     (h .told ∙ ap wrote e ∙ sym (k .told), h .text ∙ ap (left 0 (length out) itself) e ∙ sym (k .text), h .work ∙ sym (k .work))
 
--- ---- a merged solid that is given is lawful
+-- ---- a solid that is given is lawful
 
-given-tree : (s : Rooms) (t : Tree) (c : Tables) → tree-answer s t ≡ given c → (tables-of t ≡ c) × (rows t ≤ most-nodes) × (length (ascending (planes t)) ≤ most-planes)
-given-tree s t c = by (fits-rooms s t) refl (leb (length (ascending (planes t))) most-planes) refl
-  where
-    by : (b : Bool) → fits-rooms s t ≡ b → (d : Bool) → leb (length (ascending (planes t))) most-planes ≡ d → cond b (cond d (given (tables-of t)) (refused 9)) (refused 8) ≡ given c → (tables-of t ≡ c) × (rows t ≤ most-nodes) × (length (ascending (planes t)) ≤ most-planes)
-    by false eb d ed e = differ (cc)
-    by true eb false ed e = differ (cc)
-    by true eb true ed e = (cc, leb-true (rows t) most-nodes (and-true (leb (rows t) most-nodes) (leb (rows t) (s .node-rows) and leb (length (ascending (planes t))) (s .plane-rows)) eb .0), leb-true (length (ascending (planes t))) most-planes ed)
-
-sound-of : {a : Tables} → LawfulTables a → Sound (accepted a)
-sound-of {a} l = record { lawful = λ c e. let d : a ≡ c = cc in subst LawfulTables d l }
-
-pub given-lawful : {s : Rooms} {o : ℕ} {a b c : Tables} {r : Answer Tables} → LawfulTables a → LawfulTables b → MergeBy s o (accepted a) (accepted b) r → r ≡ given c → LawfulTables c
-given-lawful la lb (no-operation n) e = differ (cc)
-given-lawful la lb (a-refused k f) e = differ (cc)
-given-lawful la lb (b-refused t k f g) e = differ (cc)
-given-lawful {s} la lb (merged x A B t eo ea eb w) e =
-    let lA = solid-lawful (sound-of la) ea in
-    let lB = solid-lawful (sound-of lb) eb in
+pub merge-lawful : {s : Rooms} {o : ℕ} {A B : Verdict} {c : Tables} {r : Answer Tables} → Sound A → Sound B → MergeBy s o A B r → r ≡ given c → LawfulTables c
+merge-lawful la lb (no-operation n) e = differ (cc)
+merge-lawful la lb (a-refused k f) e = differ (cc)
+merge-lawful la lb (b-refused t k f g) e = differ (cc)
+merge-lawful {s} la lb (merged x A B t eo ea eb w) e =
     let g = given-tree s t _ e in
-    subst LawfulTables (g .0) (tables-lawful t (record { each = merge-lawful x lA lB w; few-planes = g .2; few-rows = g .1 }))
+    subst LawfulTables (g .0) (tables-lawful t (record { each = theorems.merge-lawful x (solid-lawful la ea) (solid-lawful lb eb) w; few-planes = g .2; few-rows = g .1 }))
 
--- ---- what the merge program prints
+-- a normal form that is given: the solid, and its form
+pub record FormGiven (A : Verdict) (c : Tables) : Type 0 where
+  pub solid : Tree
+  pub solid-is : A ≡ accepted (tables-of solid)
+  pub tree : Tree
+  pub right : NormalForm solid tree
+  pub lawful : LawfulTree tree
+  pub is : tables-of tree ≡ c
+
+pub form-given : {s : Rooms} {A : Verdict} {c : Tables} {r : Answer Tables} → Sound A → FormBy s A r → r ≡ given c → FormGiven A c
+form-given la (solid-refused e) f = differ (cc)
+form-given {s} {c = c} la (formed a t e n) f = let g = given-tree s t c f in record { solid = a; solid-is = e; tree = t; right = n; lawful = form-lawful (solid-lawful la e) n (g .1) (g .2); is = g .0 }
+
+pub form-given-lawful : {s : Rooms} {A : Verdict} {c : Tables} {r : Answer Tables} → Sound A → FormBy s A r → r ≡ given c → LawfulTables c
+form-given-lawful la m e = let g = form-given la m e in subst LawfulTables (g .is) (tables-lawful (g .tree) (g .lawful))
+
+-- ---- what the programs print
 
 -- the bytes of an answer
 abbrev bytes-of : Answer (List ℕ) → List ℕ
@@ -98,11 +99,17 @@ room-for : (room : ℕ) → 14488 ≤ room → (r : Answer Tables) → ((a : Tab
 room-for room h (refused k) l = refl
 room-for room h (given a) l = ap (λ b. bytes-of (cond b (given (text a)) (refused 8))) (le-leb (length (text a)) room (omega (arith, h, text-length a (l a refl))))
 
-answer-text : {t : List ℕ} {room : ℕ} {x : Answer (List ℕ)} → 14488 ≤ room → TextAnswer t room x → MergeText t (bytes-of x)
-answer-text h (unread e) = program-unread e
-answer-text {t} {room} h (merged-text {o = o} {a = a} {b = b} {r = r} e m) =
+-- the bytes that a program prints
+abbrev pub Prints : Job → List ℕ → List ℕ → Type 0
+Prints merging t = MergeText t
+Prints forming t = FormText t
+
+answer-text : (job : Job) (t : List ℕ) (room : ℕ) (x : Answer (List ℕ)) → 14488 ≤ room → AnswerTo job t room x → Prints job t (bytes-of x)
+answer-text merging t room x h (unread e) = scope.unread e
+answer-text merging t room x h (merged-text {o = o} {a = a} {b = b} {r = r} e m) =
     let l = merge-read operand-rooms t o a b e .lawful in
-    subst (MergeText t) (sym (room-for room h r (λ c f. given-lawful (l .lawful-a) (l .lawful-b) m f))) (program-merged e m)
+    subst (MergeText t) (sym (room-for room h r (λ c f. merge-lawful (sound-tables (l .lawful-a)) (sound-tables (l .lawful-b)) m f))) (scope.merged-text e m)
+answer-text forming t room x h (formed-text {r = r} m) = subst (FormText t) (sym (room-for room h r (λ c f. form-given-lawful (text-sound operand-rooms t) m f))) (scope.formed-text m)
 
 -- what a program shows of an answer and of the text lent for it: so many bytes, or one 0F line
 abbrev pub shown : Written.Written → List ℕ → List ℕ
@@ -113,9 +120,58 @@ shows : (out : List ℕ) (x : Answer (List ℕ)) → shown (wrote x) (left 0 (le
 shows out (given x) = take-append-seam x (replicate (length out - length x) 0)
 shows out (refused k) = refl
 
-pub program-text : {t out out′ : List ℕ} {w w′ : List ℤ} {r : Written.Written} → MergeTextTold t out out′ w w′ r → stated ≤ length w → 14488 ≤ length out → MergeText t (shown r out′)
-program-text {t} {out} {w = w} h e room = subst (MergeText t) (sym ((λ i. shown (h .told i) (h .text i)) ∙ shows out (h .answer))) (by (h .exact))
+enough-for : {work : ℕ} {P : Answer (List ℕ) → Type 0} {x : Answer (List ℕ)} → stated ≤ work → WithWork work P x → P x
+enough-for {work} e (short-work n) = absurd (n (subst T (sym (le-leb stated work e)) tt))
+enough-for e (enough-work u p) = p
+
+pub program-text : {job : Job} {t out out′ : List ℕ} {w w′ : List ℤ} {r : Written.Written} → TextTold job t out out′ w w′ r → stated ≤ length w → 14488 ≤ length out → Prints job t (shown r out′)
+program-text {job} {t} {out} h e room = subst (Prints job t) (sym ((λ i. shown (h .told i) (h .text i)) ∙ shows out (h .answer))) (answer-text job t (length out) (h .answer) room (enough-for e (h .exact)))
+
+-- ---- demand 3
+
+-- two solids and their normal forms as bytes: the same bytes exactly when no point strictly in the box, off the planes of both, is in one
+-- solid and out of the other
+pub record Normals (t u bytes bytes′ : List ℕ) : Type 0 where
+  pub first : Tree
+  pub first-is : judge operand-rooms t ≡ accepted (tables-of first)
+  pub second : Tree
+  pub second-is : judge operand-rooms u ≡ accepted (tables-of second)
+  pub same : (bytes ≡ bytes′) ↔ ((X : Point) → Inside box X → Off (planes first) X → Off (planes second) X → answers first X ≡ answers second X)
+
+-- a normal form that was shown as n bytes
+record Shown (t out out′ : List ℕ) (n : ℕ) : Type 0 where
+  pub is : Tables
+  pub form : FormGiven (judge operand-rooms t) is
+  pub bytes : take n out′ ≡ text is
+
+was-shown : {t out out′ : List ℕ} {w w′ : List ℤ} {n : ℕ} → TextTold forming t out out′ w w′ (Written.the-variants.Text n) → Shown t out out′ n
+was-shown {t} {out} {out′} {w} {n = n} h = with-work (h .exact) refl
   where
-    by : {x : Answer (List ℕ)} → WithWork (length w) (TextAnswer t (length out)) x → MergeText t (bytes-of x)
-    by (short-work n) = absurd (n (subst T (sym (le-leb stated (length w) e)) tt))
-    by (enough-work u p) = answer-text room p
+    none : {k : ℕ} → h .answer ≡ refused k → Shown t out out′ n
+    none {k} e = let d : Written.the-variants.Text n ≡ Written.the-variants.Refused k = h .told ∙ ap wrote e in differ (cc)
+
+    by : (r : Answer Tables) → FormBy program-rooms (judge operand-rooms t) r → h .answer ≡ in-room (length out) r → Shown t out out′ n
+    by (refused k) m e = none e
+    by (given c) m e = fits (leb (length (text c)) (length out)) refl
+      where
+        fits : (b : Bool) → leb (length (text c)) (length out) ≡ b → Shown t out out′ n
+        fits false d = none (e ∙ ap (λ b. cond b (given (text c)) (refused 8)) d)
+        fits true d =
+            let f = e ∙ ap (λ b. cond b (given (text c)) (refused 8)) d in
+            record { is = c; form = form-given (text-sound operand-rooms t) m refl; bytes = (λ i. shown (h .told i) (h .text i)) ∙ shows out (h .answer) ∙ ap bytes-of f }
+
+    with-work : {x : Answer (List ℕ)} → WithWork (length w) (FormedText t (length out)) x → h .answer ≡ x → Shown t out out′ n
+    with-work (short-work k) e = none e
+    with-work (enough-work k (formed-text {r = r} m)) e = by r m e
+
+pub same-bytes-same-space : {t u out out′ out₁ out₁′ : List ℕ} {w w′ w₁ w₁′ : List ℤ} {n m : ℕ} → TextTold forming t out out′ w w′ (Written.the-variants.Text n) → TextTold forming u out₁ out₁′ w₁ w₁′ (Written.the-variants.Text m) → Normals t u (take n out′) (take m out₁′)
+unfolding text-of
+same-bytes-same-space {t} {u} h k =
+    let a = was-shown h in
+    let b = was-shown k in
+    let f = a .form in
+    let g = b .form in
+    let e = a .bytes ∙ ap text (sym (f .is)) in
+    let d = b .bytes ∙ ap text (sym (g .is)) in
+    let s = same-text-same-space (solid-lawful (text-sound operand-rooms t) (f .solid-is)) (solid-lawful (text-sound operand-rooms u) (g .solid-is)) (f .right) (g .right) (f .lawful) (g .lawful) in
+    record { first = f .solid; first-is = f .solid-is; second = g .solid; second-is = g .solid-is; same = (λ x. s .0 (sym e ∙ x ∙ d), λ x. e ∙ s .1 x ∙ sym d) }

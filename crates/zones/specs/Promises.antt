@@ -1,100 +1,122 @@
--- What the merge of a text promises, in document 01's words.
---     in-room              the text of an answer's tables, if it has room, else 8
---     TextAnswer           the answer: operation, A, B, then the merge, then room
---     MergeTextTold        the public call: that answer and no other, the text and the work table whole
---     not-ordered, not-merged   what an order and a merge refuse, told of the text
---     TablesIn, PutIn, MergedIn, TextTold, WithTold   the same on the way
+-- What the merge and the normal form of a text promise, in document 01's words.
+--     Job                  what is asked of a text: its merge, or its normal form
+--     MergedText, FormedText, AnswerTo   the answer: what the text says, then the merge or the form, then room
+--     TextTold             the public call: that answer and no other, the text and the work table whole
+--     not-ordered, not-read   what an order and a solid refuse, told of the text
+--     WithTold, TablesIn, WorkIn, SolidIn, FormTold, OrderIn, MergeTold   the same on the way
 use mathlib.Core.Path.{_≡_}
-use mathlib.Core.Bool.{cond}
 use mathlib.Core.List.{List}
 use Prim.Native.Nat.{ℕ, _≤_}
-use lib.Dec.{leb}
 use lib.IntN.{ℤ, pos}
 use lib.ListN.{length, replicate}
 use Rattle.scope.specs.Limits.{stated}
 use Rattle.scope.specs.Solids.{Tables}
-use Rattle.scope.specs.Text.{text}
-use Rattle.scope.specs.Judging.{accepted, order, order-refused, judge-merge}
-use Rattle.scope.specs.Answers.{Answer, given, refused, left, WithWork, MergeBy, operand-rooms, program-rooms}
+use Rattle.scope.specs.Judging.{accepted, order, order-refused, judge, judge-merge}
+use Rattle.scope.specs.Answers.{Answer, refused, left, WithWork, MergeBy, FormBy, operand-rooms, program-rooms}
 use Rattle.theory.specs.Text.Trees.{LawfulTables}
 use Rattle.tables.specs.declared.Solid.{Solid}
+use Rattle.tables.specs.declared.Judgement as Judgement
 use Rattle.solids.specs.declared.Written as Written
 use Rattle.solids.specs.Writing.{wrote, itself}
-use Rattle.merging.specs.declared.Merged as Merged-as
 use Rattle.inputs.specs.declared.OrderRead as OrderRead
 use Rattle.inputs.specs.Orders.{HoldsSolid}
+use Rattle.outputs.specs.Outputs.{in-room, Outcome}
 
-abbrev pub in-room : ℕ → Answer Tables → Answer (List ℕ)
-in-room room (given a) = cond (leb (length (text a)) room) (given (text a)) (refused 8)
-in-room room (refused k) = refused k
+pub data Job : Type 0 where
+  merging : Job
+  forming : Job
 
 -- what the text says decides: a refusal of the operation's line, of A's or of B's, or the merge with the rooms of the program
-pub data TextAnswer (t : List ℕ) (room : ℕ) : Answer (List ℕ) → Type 0 where
-  unread : {n l : ℕ} → judge-merge operand-rooms t ≡ order-refused n l → TextAnswer t room (refused n)
-  merged-text : {o : ℕ} {a b : Tables} {r : Answer Tables} → judge-merge operand-rooms t ≡ order o a b → MergeBy program-rooms o (accepted a) (accepted b) r → TextAnswer t room (in-room room r)
+pub data MergedText (t : List ℕ) (room : ℕ) : Answer (List ℕ) → Type 0 where
+  unread : {n l : ℕ} → judge-merge operand-rooms t ≡ order-refused n l → MergedText t room (refused n)
+  merged-text : {o : ℕ} {a b : Tables} {r : Answer Tables} → judge-merge operand-rooms t ≡ order o a b → MergeBy program-rooms o (accepted a) (accepted b) r → MergedText t room (in-room room r)
 
--- ---- the public call
+-- a refusal of the solid's line, or the normal form with the rooms of the program
+pub data FormedText (t : List ℕ) (room : ℕ) : Answer (List ℕ) → Type 0 where
+  formed-text : {r : Answer Tables} → FormBy program-rooms (judge operand-rooms t) r → FormedText t room (in-room room r)
 
-pub record MergeTextTold (t : List ℕ) (out out′ : List ℕ) (w w′ : List ℤ) (r : Written.Written) : Type 0 where
+abbrev pub AnswerTo : Job → List ℕ → ℕ → Answer (List ℕ) → Type 0
+AnswerTo merging t room = MergedText t room
+AnswerTo forming t room = FormedText t room
+
+-- ---- the public calls
+
+pub record TextTold (job : Job) (t : List ℕ) (out out′ : List ℕ) (w w′ : List ℤ) (r : Written.Written) : Type 0 where
   pub answer : Answer (List ℕ)
-  pub exact : WithWork (length w) (TextAnswer t (length out)) answer
+  pub exact : WithWork (length w) (AnswerTo job t (length out)) answer
   pub told : r ≡ wrote answer
   pub text : out′ ≡ left 0 (length out) itself answer
   pub work : w′ ≡ replicate (length w) (pos 0)
 
 -- ---- on the way
 
--- the number of a refusal; an answer that is none has no number, and 0 is told
+-- the number of a refusal; what is read has none, and 0 is told
 abbrev pub not-ordered : OrderRead.OrderRead → Written.Written
 not-ordered (OrderRead.the-variants.Refused k l) = Written.the-variants.Refused k
 not-ordered (OrderRead.the-variants.Order o a b) = Written.the-variants.Refused 0
 
-abbrev pub not-merged : Merged-as.Merged → Written.Written
-not-merged (Merged-as.the-variants.Refused k) = Written.the-variants.Refused k
-not-merged (Merged-as.the-variants.Solid s) = Written.the-variants.Refused 0
+abbrev pub not-read : Judgement.Judgement → Written.Written
+not-read (Judgement.the-variants.Refused k l) = Written.the-variants.Refused k
+not-read (Judgement.the-variants.Sound s) = Written.the-variants.Refused 0
 
--- an answer, and what stands in the text
-pub record Outcome (answer : Answer (List ℕ)) (out out′ : List ℕ) (r : Written.Written) : Type 0 where
-  pub told : r ≡ wrote answer
-  pub text : out′ ≡ left 0 (length out) itself answer
-
-pub record WithTold (t out out′ : List ℕ) (r : Written.Written) : Type 0 where
+pub record WithTold (job : Job) (t out out′ : List ℕ) (r : Written.Written) : Type 0 where
   pub answer : Answer (List ℕ)
-  pub exact : TextAnswer t (length out) answer
+  pub exact : AnswerTo job t (length out) answer
   pub outcome : Outcome answer out out′ r
 
--- 64 plane rows and 1,000 node rows for each operand, 128 plane rows and 1,000 node rows for the result, and enough work
+-- 64 plane rows and 1,000 node rows for a solid that is read
+pub record SolidIn (ap : List ℤ) (an : List ℕ) : Type 0 where
+  pub planes : length ap ≡ 256
+  pub nodes : length an ≡ 3000
+
+-- 128 plane rows and 1,000 node rows for the result, and enough work
+pub record ResultIn (xs : List ℤ) (ns : List ℕ) (w : List ℤ) : Type 0 where
+  pub planes : length xs ≡ 512
+  pub nodes : length ns ≡ 3000
+  pub enough : stated ≤ length w
+
+pub record WorkIn (w : List ℤ) : Type 0 where
+  pub enough : stated ≤ length w
+  pub zeros : w ≡ replicate (length w) (pos 0)
+
+-- tables for the operands and for the result, and a work table of zeros
 pub record TablesIn (ap : List ℤ) (an : List ℕ) (bp : List ℤ) (bn : List ℕ) (xs : List ℤ) (ns : List ℕ) (w : List ℤ) : Type 0 where
-  pub a-planes : length ap ≡ 256
-  pub a-nodes : length an ≡ 3000
-  pub b-planes : length bp ≡ 256
-  pub b-nodes : length bn ≡ 3000
-  pub zeros : w ≡ replicate (length w) (pos 0)
-  pub planes : length xs ≡ 512
-  pub nodes : length ns ≡ 3000
-  pub enough : stated ≤ length w
-
-pub record PutIn (w : List ℤ) : Type 0 where
-  pub enough : stated ≤ length w
+  pub first : SolidIn ap an
+  pub second : SolidIn bp bn
+  pub result : ResultIn xs ns w
   pub zeros : w ≡ replicate (length w) (pos 0)
 
--- two lawful solids in tables
-pub record MergedIn (op : ℕ) (s u : Solid) (ap : List ℤ) (an : List ℕ) (bp : List ℤ) (bn : List ℕ) (xs : List ℤ) (ns : List ℕ) (w : List ℤ) : Type 0 where
-  pub first : Tables
-  pub first-lawful : LawfulTables first
-  pub first-held : HoldsSolid first s ap an
-  pub second : Tables
-  pub second-lawful : LawfulTables second
-  pub second-held : HoldsSolid second u bp bn
-  pub planes : length xs ≡ 512
-  pub nodes : length ns ≡ 3000
-  pub enough : stated ≤ length w
+-- a lawful solid in tables
+pub record Holds (s : Solid) (ap : List ℤ) (an : List ℕ) : Type 0 where
+  pub is : Tables
+  pub lawful : LawfulTables is
+  pub held : HoldsSolid is s ap an
 
--- the merge of the two, written
+-- ---- a merge
+
+pub record OrderIn (s u : Solid) (ap : List ℤ) (an : List ℕ) (bp : List ℤ) (bn : List ℕ) (xs : List ℤ) (ns : List ℕ) (w : List ℤ) : Type 0 where
+  pub first : Holds s ap an
+  pub second : Holds u bp bn
+  pub result : ResultIn xs ns w
+
 pub record Merging (op : ℕ) (a b : Tables) (out out′ : List ℕ) (r : Written.Written) : Type 0 where
   pub answer : Answer Tables
   pub exact : MergeBy program-rooms op (accepted a) (accepted b) answer
   pub outcome : Outcome (in-room (length out) answer) out out′ r
 
-abbrev pub TextTold : ℕ → Solid → Solid → List ℤ → List ℕ → List ℤ → List ℕ → List ℕ → List ℕ → Written.Written → Type 0
-TextTold op s u ap an bp bn out out′ r = (a b : Tables) → LawfulTables a → HoldsSolid a s ap an → LawfulTables b → HoldsSolid b u bp bn → Merging op a b out out′ r
+abbrev pub MergeTold : ℕ → Solid → Solid → List ℤ → List ℕ → List ℤ → List ℕ → List ℕ → List ℕ → Written.Written → Type 0
+MergeTold op s u ap an bp bn out out′ r = (a : Holds s ap an) (b : Holds u bp bn) → Merging op (a .is) (b .is) out out′ r
+
+-- ---- a normal form
+
+pub record FormIn (s : Solid) (ap : List ℤ) (an : List ℕ) (xs : List ℤ) (ns : List ℕ) (w : List ℤ) : Type 0 where
+  pub solid : Holds s ap an
+  pub result : ResultIn xs ns w
+
+pub record Forming (a : Tables) (out out′ : List ℕ) (r : Written.Written) : Type 0 where
+  pub answer : Answer Tables
+  pub exact : FormBy program-rooms (accepted a) answer
+  pub outcome : Outcome (in-room (length out) answer) out out′ r
+
+abbrev pub FormTold : Solid → List ℤ → List ℕ → List ℕ → List ℕ → Written.Written → Type 0
+FormTold s ap an out out′ r = (a : Holds s ap an) → Forming (a .is) out out′ r

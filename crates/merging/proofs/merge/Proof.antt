@@ -4,7 +4,9 @@ use lib.IntN.{pos}
 use lib.ListN.{replicate}
 use denote.Ref.{now}
 use Rattle.zeros.proofs.Fill.{cleared}
-use Rattle.merging.proofs.Told.{told-refused, told-solid}
+use Rattle.theory.specs.Text.Lent.{lent}
+use Rattle.results.specs.Results.{merge-of}
+use Rattle.results.proofs.Calls.{told-refused, told-solid}
 use borrow.Author.Needs.{needs}
 use Rattle.merging.proofs.merge.Statement.{statement}
 use Rattle.merging.proofs.merge.Tie as tie
@@ -46,7 +48,7 @@ returns : tie.Need-returns
 returns c =
     let a = c .before .before .before .before .before .before .before .before .before .before .before .before .before .before .before .before .before .before .before .before .before .before .before .before .before .before .before .before .before .before .args in
     let j = (c .before .before .before .before .before .before .before .before .before .before .before .before .before .before .before .before .merge-judged) in
-    told-refused (now (a .planes)) (now (a .nodes)) (now (a .work)) (c .before .before .before .before .before .before .before .before .before .before .before .before .before .before .before .before .before .before .before .before .before .before .before .before .before .clear .last .0) (c .before .before .before .before .before .before .before .before .before .before .before .before .before .before .before .before .before .before .before .before .before .before .clear-nodes .last .0) (c .before .before .before .before .before .before .before .before .before .before .before .before .before .before .before .before .before .before .before .before .before .before .before .before .before .clear .kept .0) (c .before .before .before .before .before .before .before .before .before .before .before .before .before .before .before .before .before .before .before .before .before .before .clear-nodes .kept .0) (j .ensures)
+    told-refused {q = merge-of (a .op) (lent (now (a .ap)) (now (a .an)) (a .ar)) (lent (now (a .bp)) (now (a .bn)) (a .br))} (now (a .planes)) (now (a .nodes)) (now (a .work)) (c .before .before .before .before .before .before .before .before .before .before .before .before .before .before .before .before .before .before .before .before .before .before .before .before .before .clear .last .0) (c .before .before .before .before .before .before .before .before .before .before .before .before .before .before .before .before .before .before .before .before .before .before .clear-nodes .last .0) (c .before .before .before .before .before .before .before .before .before .before .before .before .before .before .before .before .before .before .before .before .before .before .before .before .before .clear .kept .0) (c .before .before .before .before .before .before .before .before .before .before .before .before .before .before .before .before .before .before .before .before .before .before .clear-nodes .kept .0) (j .ensures)
     (c .before .before .before .before .before .before .before .enum-told .given .1) (c .before .before .before .before .before .clear3 .ensures ∙ ap (λ n. replicate n (pos 0)) (j .kept .1 .1 .1 .1 .1 .1 .1 .0 ∙ c .before .before .before .before .before .before .before .before .before .before .before .before .before .before .before .before .before .before .before .before .before .before .before .before .before .clear .kept .0)) (c .before .before .clear-nodes2 .ensures ∙ ap (λ n. replicate n 0) (j .kept .1 .1 .1 .1 .1 .1 .1 .1 .0 ∙ c .before .before .before .before .before .before .before .before .before .before .before .before .before .before .before .before .before .before .before .before .before .before .clear-nodes .kept .0)) (c .before .before .before .before .before .before .before .before .before .before .clear2 .ensures ∙ ap (λ n. replicate n (pos 0)) (j .kept .1 .1 .1 .1 .1 .1 .1 .1 .1 .0))
 
 same-length-4 : tie.Need-same-length-4
@@ -62,7 +64,7 @@ returns-2 : tie.Need-returns-2
 returns-2 c =
     let a = c .before .before .before .before .before .before .before .before .before .before .before .before .before .before .before .before .before .before .before .before .before .before .before .before .args in
     let j = (c .before .before .before .before .before .before .before .before .before .before .merge-judged) in
-    told-solid (now (a .planes)) (now (a .nodes)) (now (a .work)) (c .before .before .before .before .before .before .before .before .before .before .before .before .before .before .before .before .before .before .before .clear .last .0) (c .before .before .before .before .before .before .before .before .before .before .before .before .before .before .before .before .clear-nodes .last .0) (c .before .before .before .before .before .before .before .before .before .before .before .before .before .before .before .before .before .before .before .clear .kept .0) (c .before .before .before .before .before .before .before .before .before .before .before .before .before .before .before .before .clear-nodes .kept .0) (j .ensures)
+    told-solid {q = merge-of (a .op) (lent (now (a .ap)) (now (a .an)) (a .ar)) (lent (now (a .bp)) (now (a .bn)) (a .br))} (now (a .planes)) (now (a .nodes)) (now (a .work)) (c .before .before .before .before .before .before .before .before .before .before .before .before .before .before .before .before .before .before .before .clear .last .0) (c .before .before .before .before .before .before .before .before .before .before .before .before .before .before .before .before .clear-nodes .last .0) (c .before .before .before .before .before .before .before .before .before .before .before .before .before .before .before .before .before .before .before .clear .kept .0) (c .before .before .before .before .before .before .before .before .before .before .before .before .before .before .before .before .clear-nodes .kept .0) (j .ensures)
     (c .before .m .given .1) (j .kept .1 .1 .1 .1 .1 .1 .1 .0 ∙ c .before .before .before .before .before .before .before .before .before .before .before .before .before .before .before .before .before .before .before .clear .kept .0) (j .kept .1 .1 .1 .1 .1 .1 .1 .1 .0 ∙ c .before .before .before .before .before .before .before .before .before .before .before .before .before .before .before .before .clear-nodes .kept .0) (c .before .before .before .before .clear2 .ensures ∙ ap (λ n. replicate n (pos 0)) (j .kept .1 .1 .1 .1 .1 .1 .1 .1 .1 .0))
 
 pub merge-spec : {M : Type 1} → statement M

@@ -50,7 +50,7 @@ module _ (p q : Plane) {c : List Plane} (k : Independent p q) where
           }))
       go (above h) = h
 
-  strict-back : ¬ Cuts p (q ∷ c) → (X : Point) → at p X ≡ pos 0 → Inside c X → at q X ⋖ pos 0
+  pub strict-back : ¬ Cuts p (q ∷ c) → (X : Point) → at p X ≡ pos 0 → Inside c X → at q X ⋖ pos 0
   strict-back n X z i = go (lies (at q X))
     where
       go : Lies (at q X) → at q X ⋖ pos 0
@@ -157,7 +157,7 @@ module _ (p : Plane) (s : Bool) (P : List Plane → Mark → Type 0) where
               pick-q (no x) = only-front d x (u c a i (λ d m y y′ w e. k d m y y′ w (l ∙ e)))
 
   -- a walk at a node of p, and at a node of another plane
-  at-own : {R : Type 0} {c : List Plane} {q : Plane} {f b : Tree} → q ≡ p → (s ≡ true → Along p s P c f → R) → (s ≡ false → Along p s P c b → R) → Along p s P c (node q f b) → R
+  pub at-own : {R : Type 0} {c : List Plane} {q : Plane} {f b : Tree} → q ≡ p → (s ≡ true → Along p s P c f → R) → (s ≡ false → Along p s P c b → R) → Along p s P c (node q f b) → R
   at-own e u v (same-front _ l x) = u l x
   at-own e u v (same-back _ l x) = v l x
   at-own e u v (both-front d _ _ x) = absurd (d e)
@@ -165,7 +165,7 @@ module _ (p : Plane) (s : Bool) (P : List Plane → Mark → Type 0) where
   at-own e u v (only-front d _ x) = absurd (d e)
   at-own e u v (only-back d _ x) = absurd (d e)
 
-  at-other : {R : Type 0} {c : List Plane} {q : Plane} {f b : Tree} → q ≢ p
+  pub at-other : {R : Type 0} {c : List Plane} {q : Plane} {f b : Tree} → q ≢ p
       → (Cuts p (q ∷ c) → Cuts p (flip q ∷ c) → Along p s P (q ∷ c) f → R) → (Cuts p (q ∷ c) → Cuts p (flip q ∷ c) → Along p s P (flip q ∷ c) b → R)
       → (¬ Cuts p (flip q ∷ c) → Along p s P c f → R) → (¬ Cuts p (q ∷ c) → Along p s P c b → R) → Along p s P c (node q f b) → R
   at-other d u v f b (same-front e _ w) = absurd (d e)

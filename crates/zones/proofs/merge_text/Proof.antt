@@ -1,11 +1,11 @@
--- `zones::merge_text` meets its contract (proofs/TextMerge). Assumes nothing.
+-- `zones::merge_text` meets its contract (proofs/TextCalls). Assumes nothing.
 use mathlib.Core.Path.{ap, _∙_}
 use native.Mathlib.Omega.{arith}
 use lib.IntN.{pos}
 use lib.ListN.{replicate}
 use denote.Ref.{now}
 use Rattle.zeros.proofs.Fill.{cleared}
-use Rattle.zones.proofs.TextMerge.{text-short, text-told}
+use Rattle.zones.proofs.TextCalls.{text-short, text-told}
 use borrow.Author.Needs.{needs}
 use Rattle.zones.proofs.merge_text.Statement.{statement}
 use Rattle.zones.proofs.merge_text.Tie as tie

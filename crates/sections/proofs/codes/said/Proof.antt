@@ -28,14 +28,13 @@ shared-slice-read-signal-3 c = search needs
 
 signal-requires : tie.Need-signal-requires
 signal-requires c κs =
-    let s = c .before .before .before .before .before .before in
-    let f = s .pre .0 .small in
-    (f _ (c .before .before .before .before .prior .ensures .1), f _ (s .pre .1), f _ (c .before .next .ensures .1))
+    let f = c .before .before .before .before .before .before .before .pre .1 .small in
+    (c .before .before .before .before .before .before .before .pre .0, f _ (c .before .before .before .before .prior .ensures .1), f _ (c .before .before .before .before .before .before .before .pre .2), f _ (c .before .next .ensures .1))
 
 returns : tie.Need-returns
 returns c =
-    let s = c .before .before .before .before .before .before .before in
-    c .signal .ensures ∙ said-there (now (s .args .sides)) (s .args .n) (s .args .i) (c .before .before .before .before .before .prior .ensures .0) (c .before .before .next .ensures .0)
+    let s = c .before .before .before .before .before .before .before .before .args in
+    c .signal .ensures ∙ said-there (now (s .sides)) (s .n) (s .i) (c .before .before .before .before .before .prior .ensures .0) (c .before .before .next .ensures .0)
 
 pub said-spec : {M : Type 1} → statement M
 said-spec =

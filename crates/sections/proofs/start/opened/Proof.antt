@@ -1,9 +1,12 @@
 -- `sections::start::opened` meets its contract. The mathematics is in proofs/Sections. Assumes nothing.
 use borrow.Author.Needs.{needs}
-use mathlib.Core.Path.{refl}
+use mathlib.Core.Path.{_∙_}
+use Prim.Native.Nat.{_+_, _*_, _/_}
 use native.Mathlib.Omega.{arith}
 use denote.Ref.{now}
 use Rattle.planes.specs.Values.{plane}
+use Rattle.sections.specs.Values.{way-of}
+use Rattle.sections.proofs.Loops.{start-corners, rest-first, rest-second}
 use Rattle.sections.proofs.Sections.{way-in, first-clip, second-clip, opened-polygon}
 use Rattle.sections.proofs.start.opened.Statement.{statement}
 use Rattle.sections.proofs.start.opened.Tie as tie
@@ -11,7 +14,6 @@ use Rattle.sections.proofs.start.opened.Reads as reads
 use Rattle.sections.proofs.start.opened.Lts as lts
 use Rattle.sections.proofs.clipping.clip_on.Reads as clip-on-reads
 use Rattle.sections.proofs.start.begin.Reads as begin-reads
-use Rattle.sections.proofs.start.start_at.Reads as start-at-reads
 use Rattle.sections.proofs.start.way.Reads as way-reads
 
 way-requires : tie.Need-way-requires
@@ -19,42 +21,38 @@ way-requires c κs = search needs
 
 begin-requires : tie.Need-begin-requires
 begin-requires c κs =
-    let s = c .before .before in
+    let s = c .before .before .args in
+    let p = c .before .before .pre in
     let w = c .before .way in
-    (s .pre .support, way-in (plane (s .args .s)) (now (s .args .hs)) (s .args .width) (s .pre .support) (s .pre .normal) (w .result) (w .ensures), omega (arith, s .pre .room))
+    (p .support, way-in (plane (s .s)) (now (s .hs)) (s .width) (p .support) (p .normal) (w .result) (w .ensures), omega (arith, p .room))
 
-start-at-requires : tie.Need-start-at-requires
-start-at-requires c κs =
-    let s = c .before .before .before .before in
-    let w = c .before .before .before .way in
-    (way-in (plane (s .args .s)) (now (s .args .hs)) (s .args .width) (s .pre .support) (s .pre .normal) (w .result) (w .ensures), omega arith)
+mul-k : tie.Need-mul-k
+mul-k c = search needs
 
 clip-on-requires : tie.Need-clip-on-requires
 clip-on-requires c κs =
-    let s = c .before .before .before .before .before .before .before in
-    let w = c .before .before .before .before .before .before .way in
-    let b = c .before .before .before .before .begin in
-    let j = c .before .before .start-at in
-    first-clip (plane (s .args .s)) (now (s .args .hs)) (s .args .width) (s .pre .support) (s .pre .normal) (w .result) (w .ensures) (j .result) _ (j .ensures) refl
-    (b .last .1 .1 .1 .1 .0) (omega (arith, s .pre .room, b .kept)) (b .ensures) (now (s .args .out)) (s .pre .out-room)
+    let s = c .before .before .before .before .before .before .args in
+    let p = c .before .before .before .before .before .before .pre in
+    let w = c .before .before .before .before .before .way in
+    let b = c .before .before .before .begin in
+    let l = way-in (plane (s .s)) (now (s .hs)) (s .width) (p .support) (p .normal) (w .result) (w .ensures) in
+    first-clip (plane (s .s)) (now (s .hs)) (s .width) (p .support) (p .normal) (w .result) (w .ensures) (w .result / 2 * 2) (w .result / 2 * 2 + 1) (rest-first (w .result) l) (rest-second (w .result) l)
+    (b .last .1 .1 .0) (omega (arith, p .room, b .kept)) (b .ensures ∙ start-corners (plane (s .s)) (now (s .hs)) (s .width) (way-of (w .result))) (now (s .out)) (p .out-room)
 
-start-at-requires-2 : tie.Need-start-at-requires-2
-start-at-requires-2 c κs =
-    let s = c .before .before .before .before .before .before .before .before .before .before in
-    let w = c .before .before .before .before .before .before .before .before .before .way in
-    (way-in (plane (s .args .s)) (now (s .args .hs)) (s .args .width) (s .pre .support) (s .pre .normal) (w .result) (w .ensures), omega arith)
+add-clip-on : tie.Need-add-clip-on
+add-clip-on c = search needs
 
 clip-on-requires-2 : tie.Need-clip-on-requires-2
 clip-on-requires-2 c κs =
-    let s = c .before .before .before .before .before .before .before .before .before .before .before .before .before in
-    let w = c .before .before .before .before .before .before .before .before .before .before .before .before .way in
-    let b = c .before .before .before .before .before .before .before .before .before .before .begin in
-    let j = c .before .before .before .before .before .before .before .before .start-at in
-    let k = c .before .before .start-at2 in
-    let a = c .before .before .before .before .before .clip-on in
-    second-clip (plane (s .args .s)) (now (s .args .hs)) (s .args .width) (s .pre .support) (s .pre .normal) (w .result) (w .ensures) (j .result) (k .result) (j .ensures) (k .ensures)
-    (b .last .1 .1 .1 .1 .0) (omega (arith, s .pre .room, b .kept)) (b .ensures) (now (s .args .out)) (s .pre .out-room)
-    (a .last .1 .1 .1 .1 .0) (a .result) (a .ensures) (omega (arith, s .pre .room, b .kept, a .kept)) (a .last .1 .1 .1 .1 .1 .1 .0) (omega (arith, s .pre .out-room, a .kept))
+    let s = c .before .before .before .before .before .before .before .before .before .before .before .args in
+    let p = c .before .before .before .before .before .before .before .before .before .before .before .pre in
+    let w = c .before .before .before .before .before .before .before .before .before .before .way in
+    let b = c .before .before .before .before .before .before .before .before .begin in
+    let l = way-in (plane (s .s)) (now (s .hs)) (s .width) (p .support) (p .normal) (w .result) (w .ensures) in
+    let a = c .before .before .before .before .clip-on in
+    second-clip (plane (s .s)) (now (s .hs)) (s .width) (p .support) (p .normal) (w .result) (w .ensures) (w .result / 2 * 2) (w .result / 2 * 2 + 1) (rest-first (w .result) l) (rest-second (w .result) l)
+    (b .last .1 .1 .0) (omega (arith, p .room, b .kept)) (b .ensures ∙ start-corners (plane (s .s)) (now (s .hs)) (s .width) (way-of (w .result))) (now (s .out)) (p .out-room)
+    (a .last .1 .1 .1 .1 .0) (a .result) (a .ensures) (omega (arith, p .room, b .kept, a .kept)) (a .last .1 .1 .1 .1 .1 .1 .0) (omega (arith, p .out-room, a .kept))
 
 same-length : tie.Need-same-length
 same-length c = search needs
@@ -64,16 +62,16 @@ same-length-2 c = search needs
 
 returns : tie.Need-returns
 returns c =
-    let s = c .before .before .before .before .before .before .before .before .before .before .before .before .before .before .before .before in
-    let w = c .before .before .before .before .before .before .before .before .before .before .before .before .before .before .before .way in
-    let b = c .before .before .before .before .before .before .before .before .before .before .before .before .before .begin in
-    let j = c .before .before .before .before .before .before .before .before .before .before .before .start-at in
-    let k = c .before .before .before .before .before .start-at2 in
-    let a = c .before .before .before .before .before .before .before .before .clip-on in
+    let s = c .before .before .before .before .before .before .before .before .before .before .before .before .before .before .args in
+    let p = c .before .before .before .before .before .before .before .before .before .before .before .before .before .before .pre in
+    let w = c .before .before .before .before .before .before .before .before .before .before .before .before .before .way in
+    let b = c .before .before .before .before .before .before .before .before .before .before .before .begin in
+    let l = way-in (plane (s .s)) (now (s .hs)) (s .width) (p .support) (p .normal) (w .result) (w .ensures) in
+    let a = c .before .before .before .before .before .before .before .clip-on in
     let d = c .before .before .clip-on2 in
-    opened-polygon (plane (s .args .s)) (now (s .args .hs)) (s .args .width) (s .pre .support) (s .pre .normal) (w .result) (w .ensures) (j .result) (k .result) (j .ensures) (k .ensures)
-    (b .last .1 .1 .1 .1 .0) (omega (arith, s .pre .room, b .kept)) (b .ensures) (now (s .args .out)) (s .pre .out-room)
-    (a .last .1 .1 .1 .1 .0) (a .result) (a .ensures) (omega (arith, s .pre .room, b .kept, a .kept)) (a .last .1 .1 .1 .1 .1 .1 .0) (omega (arith, s .pre .out-room, a .kept))
+    opened-polygon (plane (s .s)) (now (s .hs)) (s .width) (p .support) (p .normal) (w .result) (w .ensures) (w .result / 2 * 2) (w .result / 2 * 2 + 1) (rest-first (w .result) l) (rest-second (w .result) l)
+    (b .last .1 .1 .0) (omega (arith, p .room, b .kept)) (b .ensures ∙ start-corners (plane (s .s)) (now (s .hs)) (s .width) (way-of (w .result))) (now (s .out)) (p .out-room)
+    (a .last .1 .1 .1 .1 .0) (a .result) (a .ensures) (omega (arith, p .room, b .kept, a .kept)) (a .last .1 .1 .1 .1 .1 .1 .0) (omega (arith, p .out-room, a .kept))
     (d .last .1 .1 .1 .1 .0) (d .result) (d .ensures)
 
 pub opened-spec : {M : Type 1} → statement M
@@ -82,9 +80,9 @@ opened-spec =
     (tie.spec
     way-requires
     begin-requires
-    start-at-requires
+    mul-k
     clip-on-requires
-    start-at-requires-2
+    add-clip-on
     clip-on-requires-2
     same-length
     same-length-2

@@ -1,78 +1,32 @@
--- `sections::table::box_side` meets its contract. Assumes nothing.
-use borrow.Author.Needs.{needs}
-use mathlib.Core.Path.{_∙_}
-use Rattle.sections.proofs.Kept.{four-kept}
-use Rattle.sections.proofs.Cells.{box-at}
+-- `sections::table::box_side` meets its contract: at the number of each arm the side is computed. Assumes nothing.
+use mathlib.Core.Path.{_≡_, sym, ap}
+use native.Mathlib.Omega.{arith}
+use Rattle.sections.specs.Tables.{box-side}
 use Rattle.sections.proofs.table.box_side.Statement.{statement}
 use Rattle.sections.proofs.table.box_side.Tie as tie
 use Rattle.sections.proofs.table.box_side.Reads as reads
 use Rattle.sections.proofs.table.box_side.Lts as lts
 
-mul-t3 : tie.Need-mul-t3
-mul-t3 c = search needs
-
-mul-t4 : tie.Need-mul-t4
-mul-t4 c = search needs
-
-array-copy-out-t7 : tie.Need-array-copy-out-t7
-array-copy-out-t7 c = search needs
-
-mul-t9 : tie.Need-mul-t9
-mul-t9 c = search needs
-
-add-t10 : tie.Need-add-t10
-add-t10 c = search needs
-
-mul-t11 : tie.Need-mul-t11
-mul-t11 c = search needs
-
-array-copy-out-t14 : tie.Need-array-copy-out-t14
-array-copy-out-t14 c = search needs
-
-mul-t16 : tie.Need-mul-t16
-mul-t16 c = search needs
-
-add-t17 : tie.Need-add-t17
-add-t17 c = search needs
-
-mul-t18 : tie.Need-mul-t18
-mul-t18 c = search needs
-
-array-copy-out-t21 : tie.Need-array-copy-out-t21
-array-copy-out-t21 c = search needs
-
-mul-t23 : tie.Need-mul-t23
-mul-t23 c = search needs
-
-add-t24 : tie.Need-add-t24
-add-t24 c = search needs
-
-mul-t25 : tie.Need-mul-t25
-mul-t25 c = search needs
-
-array-copy-out-t28 : tie.Need-array-copy-out-t28
-array-copy-out-t28 c = search needs
-
 returns : tie.Need-returns
-returns c = four-kept (record { sfits = c .before .before .before .t7 .given }) (record { sfits = c .before .before .t14 .given }) (record { sfits = c .before .t21 .given }) (record { sfits = c .t28 .given }) ∙ box-at (c .before .before .before .before .args .k) (c .before .before .before .before .pre)
+returns c = ap box-side (sym (c .match .keys1))
+
+returns-2 : tie.Need-returns-2
+returns-2 c = ap box-side (sym (c .match .keys2))
+
+returns-3 : tie.Need-returns-3
+returns-3 c = ap box-side (sym (c .match .keys3))
+
+returns-4 : tie.Need-returns-4
+returns-4 c = ap box-side (sym (c .match .keys4))
+
+returns-5 : tie.Need-returns-5
+returns-5 c = ap box-side (sym (c .match .keys5))
+
+returns-6 : tie.Need-returns-6
+returns-6 c =
+    let r = c .match .rest in
+    let e : c .before .args .k ≡ 5 = omega (arith, c .before .pre, r .1, r .0 .1, r .0 .0 .1, r .0 .0 .0 .1, r .0 .0 .0 .0 .1) in
+    ap box-side (sym e)
 
 pub box-side-spec : {M : Type 1} → statement M
-box-side-spec =
-    tie.close
-    (tie.spec
-    mul-t3
-    mul-t4
-    array-copy-out-t7
-    mul-t9
-    add-t10
-    mul-t11
-    array-copy-out-t14
-    mul-t16
-    add-t17
-    mul-t18
-    array-copy-out-t21
-    mul-t23
-    add-t24
-    mul-t25
-    array-copy-out-t28
-    returns)
+box-side-spec = tie.close (tie.spec returns returns-2 returns-3 returns-4 returns-5 returns-6)

@@ -1,0 +1,9 @@
+pub mod Paths
+pub mod Parts
+pub mod Passes
+pub mod Follows
+pub mod Turns
+pub mod Cycle
+pub mod Rows
+pub mod Tells
+pub mod Lists

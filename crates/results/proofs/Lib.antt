@@ -1,0 +1,4 @@
+pub mod Trees
+pub mod Operands
+pub mod PutOut
+pub mod Calls

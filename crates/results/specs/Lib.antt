@@ -1,0 +1,4 @@
+pub mod Results
+pub mod Putting
+pub mod Operands
+pub mod Follows
