@@ -7,6 +7,7 @@ use borders::list_boundary;
 use results::Given;
 use results::not_sound;
 use results::put_out;
+use results::wipe;
 use splits::form_cell;
 use tables::Judgement;
 use tables::Solid;
@@ -154,13 +155,11 @@ pub fn normal(
 ) -> Given
     ensures { λ r. ⌜ NormalTold (now (ap .entry)) (now (an .entry)) ar (now (planes .entry)) (now (planes .exit)) (now (nodes .entry)) (now (nodes .exit)) (now (work .entry)) (now (work .exit)) r ⌝ }
 {
-    zeros::clear(planes); // of what was lent
-    zeros::clear_nodes(nodes);
+    wipe(planes, nodes); // of what was lent
     let m = normal_judged(ap, an, ar, planes, nodes, work);
     zeros::clear(work);
     let Given::Solid(s) = m else {
-        zeros::clear(planes); // of what a refusal left
-        zeros::clear_nodes(nodes);
+        wipe(planes, nodes); // of what a refusal left
         return m;
     };
     Given::Solid(s)

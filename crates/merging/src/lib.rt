@@ -4,6 +4,7 @@
 use results::Given;
 use results::not_sound;
 use results::put_out;
+use results::wipe;
 use tables::Judgement;
 use tables::Solid;
 use walks::Turn;
@@ -157,13 +158,11 @@ pub fn merge(
 ) -> Given
     ensures { λ r. ⌜ MergeTold op (now (ap .entry)) (now (an .entry)) ar (now (bp .entry)) (now (bn .entry)) br (now (planes .entry)) (now (planes .exit)) (now (nodes .entry)) (now (nodes .exit)) (now (work .entry)) (now (work .exit)) r ⌝ }
 {
-    zeros::clear(planes); // of what was lent
-    zeros::clear_nodes(nodes);
+    wipe(planes, nodes); // of what was lent
     let m = merge_judged(op, ap, an, ar, bp, bn, br, planes, nodes, work);
     zeros::clear(work);
     let Given::Solid(s) = m else {
-        zeros::clear(planes); // of what a refusal left
-        zeros::clear_nodes(nodes);
+        wipe(planes, nodes); // of what a refusal left
         return m;
     };
     Given::Solid(s)

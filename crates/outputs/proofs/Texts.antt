@@ -26,12 +26,12 @@ use Rattle.results.specs.declared.Given as Given
 use Rattle.results.specs.Results.{given-of}
 use Rattle.results.specs.Follows.{refused-by}
 use Rattle.inputs.specs.Orders.{HoldsSolid}
-use Rattle.outputs.specs.Outputs.{in-room, not-given, Outcome, Gave}
+use Rattle.outputs.specs.Outputs.{in-room, Refuses, not-given, Outcome, Gave}
 use Rattle.outputs.proofs.Held.{held-lent}
 
 module _ {answer : Answer Tables} {xs : List ℤ} {ns : List ℕ} {g : Given.Given} (h : Gave answer xs ns g) where
-  pub written-refused : {k : ℕ} {out out′ : List ℕ} → g ≡ Given.the-variants.Refused k → out′ ≡ replicate (length out) 0 → {r : Written.Written} → r ≡ not-given g → Outcome (in-room (length out) answer) out out′ r
-  written-refused {k} {out} {out′} e z f = rw (f ∙ ap not-given e) (record { told = ap (λ x. wrote (in-room (length out) x)) (sym no); text = z ∙ ap (λ n. replicate {A = ℕ} n 0) {x = length out} {y = length out - 0} (omega arith) ∙ ap (λ x. left 0 (length out) itself (in-room (length out) x)) (sym no) })
+  pub written-refused : {k : ℕ} {out out′ : List ℕ} → g ≡ Given.the-variants.Refused k → {r : Written.Written} → Refuses (not-given g) out out′ r → Outcome (in-room (length out) answer) out out′ r
+  written-refused {k} {out} {out′} e f = rw (f .number ∙ ap (λ g. Written.the-variants.Refused (not-given g)) e) (record { told = ap (λ x. wrote (in-room (length out) x)) (sym no); text = f .text ∙ ap (λ n. replicate {A = ℕ} n 0) {x = length out} {y = length out - 0} (omega arith) ∙ ap (λ x. left 0 (length out) itself (in-room (length out) x)) (sym no) })
     where
       no : answer ≡ refused k
       no = refused-by answer e (h .told)

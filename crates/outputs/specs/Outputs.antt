@@ -1,6 +1,6 @@
 -- The text of an answer.
 --     in-room            the text of an answer's tables, if it has room, else 8
---     not-given          what a call refuses, told of its text
+--     Refuses, not-given a refusal, told of a text, and what a call refuses
 --     Outcome            a text that was asked for, and what stands in the text lent for it
 --     Gave               an answer, and its tables as a call left them
 --     WriteIn, WriteTold the answer's text
@@ -10,7 +10,7 @@ use mathlib.Core.List.{List}
 use Prim.Native.Nat.{ℕ, _≤_}
 use lib.Dec.{leb}
 use lib.IntN.{ℤ, pos}
-use lib.ListN.{length}
+use lib.ListN.{length, replicate}
 use Rattle.scope.specs.Limits.{stated}
 use Rattle.scope.specs.Solids.{Tables}
 use Rattle.scope.specs.Text.{text}
@@ -25,10 +25,15 @@ abbrev pub in-room : ℕ → Answer Tables → Answer (List ℕ)
 in-room room (given a) = cond (leb (length (text a)) room) (given (text a)) (refused 8)
 in-room room (refused k) = refused k
 
+-- a number, and a text of zeros
+pub record Refuses (k : ℕ) (out out′ : List ℕ) (r : Written.Written) : Type 0 where
+  pub number : r ≡ Written.the-variants.Refused k
+  pub text : out′ ≡ replicate (length out) 0
+
 -- the number of a refusal; an answer that is none has no number, and 0 is told
-abbrev pub not-given : Given.Given → Written.Written
-not-given (Given.the-variants.Refused k) = Written.the-variants.Refused k
-not-given (Given.the-variants.Solid s) = Written.the-variants.Refused 0
+abbrev pub not-given : Given.Given → ℕ
+not-given (Given.the-variants.Refused k) = k
+not-given (Given.the-variants.Solid s) = 0
 
 pub record Outcome (answer : Answer (List ℕ)) (out out′ : List ℕ) (r : Written.Written) : Type 0 where
   pub told : r ≡ wrote answer

@@ -1,16 +1,23 @@
 // The solid that a merge or a normal form gave, written as text.
 use results::Given;
 use solids::Written;
-ghost use mathlib.Core.Path.{_≡_};
-ghost use Rattle.outputs.specs.Outputs.{not-given, WriteIn, WriteTold};
+ghost use Rattle.outputs.specs.Outputs.{Refuses, not-given, WriteIn, WriteTold};
+
+// A refusal: its number, and a text of zeros.
+pub fn refuse(k: u8, out: &mut [u8]) -> Written
+    ensures { λ r. ⌜ Refuses k (now (out .entry)) (now (out .exit)) r ⌝ }
+{
+    zeros::clear_text(out);
+    Written::Refused(k)
+}
 
 // The refusal of a call, told of its text. A solid that is given has none: it is not asked for, and the number is 0.
-fn not_given(g: Given) -> Written
-    ensures { λ r. ⌜ r ≡ not-given g ⌝ }
+fn not_given(g: Given, out: &mut [u8]) -> Written
+    ensures { λ r. ⌜ Refuses (not-given g) (now (out .entry)) (now (out .exit)) r ⌝ }
 {
     match g {
-        Given::Refused(k) => Written::Refused(k),
-        Given::Solid(_) => Written::Refused(0),
+        Given::Refused(k) => refuse(k, out),
+        Given::Solid(_) => refuse(0, out),
     }
 }
 
@@ -20,8 +27,7 @@ pub fn written(g: Given, planes: &[i64], nodes: &[u16], out: &mut [u8], work: &m
     ensures { λ r. ⌜ WriteTold g (now (planes .entry)) (now (nodes .entry)) (now (out .entry)) (now (out .exit)) r ⌝ }
 {
     let Given::Solid(s) = g else {
-        zeros::clear_text(out);
-        return not_given(g);
+        return not_given(g, out);
     };
     solids::write(
         &planes[0..4 * s.planes],

@@ -4,7 +4,7 @@
 --     given-of           an answer of document 01 as the code's
 --     listed-as, not-walked, not-sound   what a listing, a walk and a judge say, told of the result
 --     Told               the public call: the answer that is right, the result tables and the work table whole
---     Held, Outcome, Judged, ZerosIn   the same on the way
+--     Held, Outcome, Judged, Wiped, ZerosIn   the same on the way
 use mathlib.Core.Path.{_≡_}
 use mathlib.Core.List.{List}
 use Prim.Native.Nat.{ℕ, _/_}
@@ -73,6 +73,11 @@ pub record Judged (q : Asked) (work : ℕ) (xs xs′ : List ℤ) (ns ns′ : Lis
   pub answer : Answer Tables
   pub exact : Right q work (rooms xs ns) answer
   pub outcome : Outcome answer xs′ ns′ r
+
+-- what was in the tables is gone
+pub record Wiped (xs xs′ : List ℤ) (ns ns′ : List ℕ) : Type 0 where
+  pub planes : xs′ ≡ replicate (length xs) (pos 0)
+  pub nodes : ns′ ≡ replicate (length ns) 0
 
 -- tables of zeros
 pub record ZerosIn (xs : List ℤ) (ns : List ℕ) : Type 0 where

@@ -5,7 +5,7 @@ use tables::Judgement;
 use tables::Solid;
 use walks::Walked;
 ghost use mathlib.Core.Path.{_≡_};
-ghost use Rattle.results.specs.Results.{listed-as, not-walked, not-sound};
+ghost use Rattle.results.specs.Results.{listed-as, not-walked, not-sound, Wiped};
 ghost use Rattle.results.specs.Putting.{PutIn, PutTold};
 
 // A solid's counts and root code, or the number of the refusal.
@@ -46,6 +46,14 @@ fn listed(l: Listed, m: usize, root: u16) -> Given
             root,
         }),
     }
+}
+
+// Makes the tables of a result zero.
+pub fn wipe(planes: &mut [i64], nodes: &mut [u16])
+    ensures { λ _. ⌜ Wiped (now (planes .entry)) (now (planes .exit)) (now (nodes .entry)) (now (nodes .exit)) ⌝ }
+{
+    zeros::clear(planes);
+    zeros::clear_nodes(nodes);
 }
 
 // The rows that a walk put out, made the tables of a solid: the planes that they use become its list.

@@ -6,6 +6,7 @@
 --     form-some, form-answer-unique      the normal form
 --     text-some, text-unique             the merge of a text
 --     form-text-some, form-text-unique   the normal form of a text
+--     same-space-same-answer, same-space-same-text   two solids that are the same space get the same normal form, or the same refusal
 use mathlib.Core.Path.{_≡_, refl, sym, ap, subst, _∙_}
 use mathlib.Core.Bool.{Bool, true, false}
 use mathlib.Core.List.{List}
@@ -14,8 +15,8 @@ use lib.Dec.{T, leb}
 use Rattle.whole.specs.Tests.{differ}
 use Rattle.scope.specs.Limits.{stated}
 use Rattle.scope.specs.Planes.{Point}
-use Rattle.scope.specs.Solids.{Tree, Tables, tables-of, LawfulTree, Reply}
-use Rattle.scope.specs.Cells.{Operation, Merged}
+use Rattle.scope.specs.Solids.{Tree, planes, Tables, tables-of, LawfulTree, Reply, answer}
+use Rattle.scope.specs.Cells.{Inside, box, Off, Operation, Merged}
 use Rattle.scope.specs.Text.{operation-code}
 use Rattle.scope.specs.Normal.{NormalForm}
 use Rattle.scope.specs.Judging.{Rooms, Verdict, accepted, refusal, Lent, judge-lent, MergeInput, order, order-refused, known, judge, judge-merge}
@@ -25,7 +26,7 @@ use Rattle.theory.specs.Text.Trees.{LawfulTables, lawful-back, tree-tabl
 use Rattle.theory.specs.Text.MergeInput.{operation-of, operation-known, operation-one, merge-read}
 use Rattle.theory.specs.Text.Judge.{judge-read}
 use Rattle.theory.specs.Text.Lent.{lent-taken}
-use Rattle.theory.specs.Theorems.{merge, merge-unique, form, form-unique}
+use Rattle.theory.specs.Theorems.{merge, merge-unique, form, form-unique, same-form-same-space}
 
 -- ---- a solid that is accepted
 
@@ -170,6 +171,16 @@ module _ (s : Rooms) (A : Lent) where
   pub form-answer-unique : {work : ℕ} {q r : Answer Tables} → FormAnswer work s A q → FormAnswer work s A r → q ≡ r
   form-answer-unique = with-unique (form-by-unique s (lent-sound A))
 
+-- two solids that are the same space get the same answer, a refusal too
+pub same-space-same-answer : (s : Rooms) (a b : Tree) {A B : Verdict} → Sound A → Sound B → A ≡ accepted (tables-of a) → B ≡ accepted (tables-of b)
+    → ((X : Point) → Inside box X → Off (planes a) X → Off (planes b) X → answer a X ≡ answer b X) → (q r : Answer Tables) → FormBy s A q → FormBy s B r → q ≡ r
+same-space-same-answer s a b u v d e f q r (solid-refused g) m = differ (cc)
+same-space-same-answer s a b u v d e f q r (formed c t g n) (solid-refused h) = differ (cc)
+same-space-same-answer s a b u v d e f q r (formed c t g n) (formed z w h m) =
+    let i : c ≡ a = solid-unique u g d in
+    let j : z ≡ b = solid-unique v h e in
+    ap (tree-answer s) (same-form-same-space (solid-lawful u d) (solid-lawful v e) (subst (λ y. NormalForm y t) i n) (subst (λ y. NormalForm y w) j m) .1 f)
+
 -- ---- the merge of a text
 
 module _ (t : List ℕ) where
@@ -204,3 +215,7 @@ form-text-some t = let r = form-by program-rooms (text-sound operand-rooms t) in
 
 pub form-text-unique : {t q r : List ℕ} → FormText t q → FormText t r → q ≡ r
 form-text-unique {t} (formed-text {r = x} m) (formed-text {r = y} n) = ap printed (form-by-unique program-rooms (text-sound operand-rooms t) x y m n)
+
+pub same-space-same-text : (a b : Tree) {t u x y : List ℕ} → judge operand-rooms t ≡ accepted (tables-of a) → judge operand-rooms u ≡ accepted (tables-of b)
+    → ((X : Point) → Inside box X → Off (planes a) X → Off (planes b) X → answer a X ≡ answer b X) → FormText t x → FormText u y → x ≡ y
+same-space-same-text a b {t} {u} d e f (formed-text {r = q} m) (formed-text {r = r} n) = ap printed (same-space-same-answer program-rooms a b (text-sound operand-rooms t) (text-sound operand-rooms u) d e f q r m n)

@@ -6,3 +6,4 @@ pub mod Forms
 pub mod Text
 pub mod Theorems
 pub mod Answers
+pub mod Numbers

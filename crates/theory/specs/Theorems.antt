@@ -5,23 +5,25 @@
 --     cells         missed-one-side, halves, told, path-128
 --     merges        merge, merge-unique, merge-points, merge-tight, merge-rows, merge-lawful, merge-planes
 --     texts         text-of-injective, judge-tree, judge-read, judge-only, judge-refused, refused-judge, refused-one   (page Text)
---     normal forms  form, form-unique, form-points, form-planes, form-lawful, form-single, form-again, form-merged, same-form-same-space, same-text-same-space
+--     normal forms  form-both, form-both-unique, form, form-unique, form-points, form-planes, form-few, form-lawful, form-single, form-again, form-merged, same-form-same-space, same-text-same-space, same-or-apart, forms-apart; empty-lawful
 -- Endings: -unique, no second one; -points, the answers of points off the planes; -tight, no plane is kept that misses its cell.
 use mathlib.Core.Path.{_≡_, refl, sym, ap}
 use mathlib.Core.List.{List, [], _∷_, _++_}
-use mathlib.Core.Logic.{_⊎_, inl, inr, _↔_}
+use mathlib.Core.Logic.{_≢_, _⊎_, inl, inr, _↔_}
 use Prim.Native.Nat.{ℕ, _+_, _*_, _≤_}
 use native.Mathlib.Omega.{arith}
+use lib.IntN.{pos}
 use lib.ListN.{length, length-append}
 use Rattle.whole.specs.Members.{_∈_, in-left, in-right, in-either}
-use Rattle.scope.specs.Planes.{Plane, Point, flip, Lawful}
+use Rattle.whole.specs.Tests.{differ}
+use Rattle.scope.specs.Planes.{Plane, Point, at as at-point, flip, Lawful}
 use Rattle.scope.specs.Limits.{most-planes, most-nodes}
 use Rattle.scope.specs.Solids.{Mark, IN, OUT, Tree, leaf, rows, planes, ascending, LawfulTree, walk, front, answer}
 use Rattle.scope.specs.Text.{text-of}
 use Rattle.scope.specs.Cells.{Inside, box, Cuts, AllFront, AllBack, Off, Operation, union, operate, Merged}
-use Rattle.scope.specs.Normal.{space, both, Boundary, Normal, NormalForm}
+use Rattle.scope.specs.Normal.{space, both, Boundary, Uniform, Normal, NormalForm}
 use Rattle.theory.specs.Planes.General.{Nonzero, General, general-sub}
-use Rattle.theory.specs.Planes.Lists.{ascending-law, ascending-same}
+use Rattle.theory.specs.Planes.Lists.{ascending-law, ascending-same, ascending-less}
 use Rattle.theory.specs.Planes.Lawful.{lawful-nonzero}
 use Rattle.theory.specs.Planes.Apart.{lawful-general}
 use Rattle.theory.specs.Cells.Reached.{Cell, whole, decided}
@@ -29,7 +31,8 @@ use Rattle.theory.specs.Cells.Box.{origin, box-origin}
 use Rattle.theory.specs.Cells.Sides.{Decided, cut, fore, aft, decide, half-front, half-back}
 use Rattle.theory.specs.Cells.Walk.{EachPlane, Tight, merged-one, merged-some, merged-answers, merged-tight, merged-rows, merged-each}
 use Rattle.theory.specs.Cells.Path.{Kept, kept-few}
-use Rattle.theory.specs.Cells.Uniform.{uniform?}
+use Rattle.theory.specs.Cells.Uniform.{Mixed, uniform?}
+use Rattle.theory.specs.Cells.Clear.{clear-off, keeps-inside}
 use Rattle.theory.specs.Forms.Normal.{normal-one, normal-answers, normal-planes, normal-same, normal-uses, same-form}
 use Rattle.theory.specs.Forms.Build.{form-some, listed}
 use Rattle.theory.specs.Forms.OnPlane.{boundary?}
@@ -148,9 +151,15 @@ module _ {A : Tree} (l : LawfulTree A) where
     pub form-planes : (p : Plane) → (p ∈ planes r) ↔ Boundary (space A) p
     form-planes p = (normal-planes (space A) n p, normal-uses (space A) (lawful-general (l .each)) n p)
 
-    -- it is a solid, if it is small
-    pub form-lawful : rows r ≤ most-nodes → length (ascending (planes r)) ≤ most-planes → LawfulTree r
-    form-lawful f g = record { each = λ p m. l .each p (normal-planes (space A) n p m .member); few-planes = g; few-rows = f }
+    -- it has no more planes than its solid, so it is a solid itself if it has few enough rows
+    pub form-few : length (ascending (planes r)) ≤ most-planes
+    form-few =
+        let s = ascending-same (planes r) in
+        let t = ascending-same (planes A) in
+        omega (arith, l .few-planes, ascending-less (ascending-law (planes r)) (ascending-law (planes A)) (λ p m. t .to p (normal-planes (space A) n p (s .from p m) .member)))
+
+    pub form-lawful : rows r ≤ most-nodes → LawfulTree r
+    form-lawful f = record { each = λ p m. l .each p (normal-planes (space A) n p m .member); few-planes = form-few; few-rows = f }
 
     -- it is the form of the solid's union with the empty solid
     pub form-single : Normal (both (operate union) A (leaf OUT)) box r
@@ -184,3 +193,66 @@ module _ {A B : Tree} (l : LawfulTree A) (k : LawfulTree B) {r s : Tree} (n : No
   -- and for texts
   pub same-text-same-space : LawfulTree r → LawfulTree s → (text-of r ≡ text-of s) ↔ ((X : Point) → Inside box X → Off (planes A) X → Off (planes B) X → answer A X ≡ answer B X)
   same-text-same-space lr ls = (λ e. same-form-same-space .0 (text-of-injective r s lr ls e), λ f. ap text-of (same-form-same-space .1 f))
+
+-- ---- the same space or not: it is decided, and if not, a point shows it
+
+abbrev differs : Mark → Mark → Mark
+differs IN IN = OUT
+differs IN OUT = IN
+differs OUT IN = IN
+differs OUT OUT = OUT
+
+differs-out : (a b : Mark) → differs a b ≡ OUT → a ≡ b
+differs-out IN IN e = refl
+differs-out IN OUT e = differ (cc)
+differs-out OUT IN e = differ (cc)
+differs-out OUT OUT e = refl
+
+differs-in : (a b : Mark) → differs a b ≡ IN → a ≢ b
+differs-in IN IN e d = differ (cc)
+differs-in IN OUT e d = differ (cc)
+differs-in OUT IN e d = differ (cc)
+differs-in OUT OUT e d = differ (cc)
+
+-- a point strictly in the box and off the planes of both, in one solid and out of the other
+pub record Apart (A B : Tree) : Type 0 where
+  pub point : Point
+  pub inside : Inside box point
+  pub off-first : Off (planes A) point
+  pub off-second : Off (planes B) point
+  pub apart : answer A point ≢ answer B point
+
+module _ {A B : Tree} (l : LawfulTree A) (k : LawfulTree B) where
+  pub same-or-apart : ((X : Point) → Inside box X → Off (planes A) X → Off (planes B) X → answer A X ≡ answer B X) ⊎ Apart A B
+  same-or-apart = by (uniform? differs (thick l) (thick k) Lawful (λ p h. lawful-nonzero h) decided (lawful l) (lawful k) box origin whole box-origin)
+    where
+      at : (X : Point) → Inside box X → Off (planes A ++ planes B) X → differs (walk A (front X)) (walk B (front X)) ≡ IN → Apart A B
+      at X i o e = record { point = X; inside = i; off-first = record { none = λ q m. o .none q (in-left (planes B) m) }; off-second = record { none = λ q m. o .none q (in-right (planes A) m) }; apart = differs-in (walk A (front X)) (walk B (front X)) e }
+
+      either-in : (a b : Mark) → a ≢ b → (a ≡ IN) ⊎ (b ≡ IN)
+      either-in IN b d = inl refl
+      either-in OUT IN d = inr refl
+      either-in OUT OUT d = absurd (d refl)
+
+      one : Mixed (both differs A B) box → Apart A B
+      one u = pick (either-in (both differs A B .mark (front (u .y))) (both differs A B .mark (front (u .z))) (u .differ))
+        where
+          pick : (both differs A B .mark (front (u .y)) ≡ IN) ⊎ (both differs A B .mark (front (u .z)) ≡ IN) → Apart A B
+          pick (inl e) = at (u .y) (u .y-in) (u .y-off) e
+          pick (inr e) = at (u .z) (u .z-in) (u .z-off) e
+
+      all : (m : Mark) → Uniform (both differs A B) box m → ((X : Point) → Inside box X → Off (planes A) X → Off (planes B) X → answer A X ≡ answer B X) ⊎ Apart A B
+      all OUT u = inl (λ X i y z. differs-out (walk A (front X)) (walk B (front X)) (u .all X i (record { none = either (planes A) (planes B) {Q = λ q. at-point q X ≢ pos 0} (y .none) (z .none) })))
+      all IN u = let y = clear-off box (planes A ++ planes B) origin (either (planes A) (planes B) {Q = Nonzero} (thick l .each) (thick k .each)) in inr (at (y .0) (keeps-inside (y .1) box-origin) (y .2) (u .all (y .0) (keeps-inside (y .1) box-origin) (y .2)))
+
+      by : ((m : Mark) × Uniform (both differs A B) box m) ⊎ Mixed (both differs A B) box → ((X : Point) → Inside box X → Off (planes A) X → Off (planes B) X → answer A X ≡ answer B X) ⊎ Apart A B
+      by (inl m) = all (m .0) (m .1)
+      by (inr m) = inr (one m)
+
+  -- so two normal forms that are not the same show such a point
+  pub forms-apart : {r s : Tree} → NormalForm A r → NormalForm B s → r ≢ s → Apart A B
+  forms-apart n m d = by same-or-apart
+    where
+      by : ((X : Point) → Inside box X → Off (planes A) X → Off (planes B) X → answer A X ≡ answer B X) ⊎ Apart A B → Apart A B
+      by (inl f) = absurd (d (same-form-same-space l k n m .1 f))
+      by (inr a) = a

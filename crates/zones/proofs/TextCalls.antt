@@ -2,7 +2,7 @@
 --     from-work                what is told of a call with enough work, without it
 --     result-gave              what a call left in the tables for the result
 --     text-short, text-told    a work table that is too short, and one that is not
-use mathlib.Core.Path.{_≡_, refl, sym, ap, subst, _∙_}
+use mathlib.Core.Path.{_≡_, sym, ap, subst, _∙_}
 use mathlib.Core.List.{List}
 use Prim.Native.Nat.{ℕ, _-_, _≤_, _<_}
 use native.Mathlib.Omega.{arith}
@@ -17,7 +17,7 @@ use Rattle.theory.specs.Text.Trees.{LawfulTables}
 use Rattle.solids.specs.declared.Written as Written
 use Rattle.results.specs.declared.Given.{Given}
 use Rattle.results.specs.Results.{Asked, Told}
-use Rattle.outputs.specs.Outputs.{Gave}
+use Rattle.outputs.specs.Outputs.{Refuses, Gave}
 use Rattle.zones.specs.Promises.{Job, TextTold, WithTold}
 
 pub from-work : {work : ℕ} {P : Answer Tables → Type 0} {r : Answer Tables} → stated ≤ work → WithWork work P r → P r
@@ -27,8 +27,8 @@ from-work e (enough-work t p) = p
 pub result-gave : {q : Asked} {xs xs′ : List ℤ} {ns ns′ : List ℕ} {w w′ : List ℤ} {m : Given} (h : Told q xs xs′ ns ns′ w w′ m) → ((a : Tables) → h .answer ≡ given a → LawfulTables a) → length xs′ ≡ length xs → length ns′ ≡ length ns → Gave (h .answer) xs′ ns′ m
 result-gave h l lx ln = record { told = h .told; planes = h .planes ∙ ap (λ n. left (pos 0) n plane-numbers (h .answer)) (sym lx); nodes = h .nodes ∙ ap (λ n. left 0 n node-numbers (h .answer)) (sym ln); lawful = l }
 
-pub text-short : {job : Job} {t out out′ : List ℕ} {w w′ : List ℤ} → length w < stated → out′ ≡ replicate (length out) 0 → w′ ≡ replicate (length w) (pos 0) → TextTold job t out out′ w w′ (Written.the-variants.Refused 8)
-text-short {job} {t} {out} {out′} {w} e z zw = record { answer = refused 8; exact = short-work (λ x. subst T (lt-leb stated (length w) e) x); told = refl; text = z ∙ ap (λ n. replicate {A = ℕ} n 0) {x = length out} {y = length out - 0} (omega arith); work = zw }
+pub text-short : {job : Job} {t out out′ : List ℕ} {w w′ : List ℤ} → length w < stated → w′ ≡ replicate (length w) (pos 0) → {r : Written.Written} → Refuses 8 out out′ r → TextTold job t out out′ w w′ r
+text-short {job} {t} {out} {out′} {w} e zw z = record { answer = refused 8; exact = short-work (λ x. subst T (lt-leb stated (length w) e) x); told = z .number; text = z .text ∙ ap (λ n. replicate {A = ℕ} n 0) {x = length out} {y = length out - 0} (omega arith); work = zw }
 
 pub text-told : {job : Job} {t out out′ : List ℕ} {w w′ : List ℤ} {r : Written.Written} → stated ≤ length w → w′ ≡ replicate (length w) (pos 0) → WithTold job t out out′ r → TextTold job t out out′ w w′ r
 text-told {w = w} e zw h = record { answer = h .answer; exact = enough-work (subst T (sym (le-leb stated (length w) e)) tt) (h .exact); told = h .outcome .told; text = h .outcome .text; work = zw }

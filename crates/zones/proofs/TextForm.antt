@@ -24,10 +24,10 @@ use Rattle.solids.specs.Follows.{read-given}
 use Rattle.solids.specs.Follows as reading
 use Rattle.results.specs.declared.Given.{Given}
 use Rattle.forms.specs.Promises.{NormalTold}
-use Rattle.outputs.specs.Outputs.{in-room, Gave, WriteTold}
+use Rattle.outputs.specs.Outputs.{in-room, Refuses, Gave, WriteTold}
 use Rattle.outputs.proofs.Held.{held-lent}
 use Rattle.zones.specs.Follows.{form-given-lawful}
-use Rattle.zones.specs.Promises.{forming, formed-text, not-read, WithTold, SolidIn, ResultIn, Holds, Forming, FormTold}
+use Rattle.zones.specs.Promises.{forming, formed-text, not-read, WithTold, SolidIn, ResultIn, Holds, Forming, SolidFormed}
 use Rattle.zones.proofs.TextCalls.{from-work, result-gave}
 
 -- ---- the form's answer
@@ -63,8 +63,8 @@ module _ {t : List ℕ} {xs xs′ : List ℤ} {ns ns′ : List ℕ} {w w′ : Li
   judged : j ≡ judgement (judge operand-rooms t)
   judged = h .answer ∙ ap (λ b. judgement (cond b (judge (rooms xs ns) t) (refusal 8 0))) (le-leb stated (length w) enough) ∙ ap (λ r. judgement (judge r t)) rooms-are
 
-  pub solid-refused : {out out′ : List ℕ} {k l : ℕ} → j ≡ Judgement.the-variants.Refused k l → out′ ≡ replicate (length out) 0 → {r : Written.Written} → r ≡ not-read j → WithTold forming t out out′ r
-  solid-refused {out} {out′} {k} {l} e z f = rw (f ∙ ap not-read e) (record { answer = refused k; exact = formed-text {r = refused k} (scope.solid-refused (by (judge operand-rooms t) (sym judged ∙ e))); outcome = record { told = refl; text = z ∙ ap (λ n. replicate {A = ℕ} n 0) {x = length out} {y = length out - 0} (omega arith) } })
+  pub solid-refused : {out out′ : List ℕ} {k l : ℕ} → j ≡ Judgement.the-variants.Refused k l → {r : Written.Written} → Refuses (not-read j) out out′ r → WithTold forming t out out′ r
+  solid-refused {out} {out′} {k} {l} e f = rw (f .number ∙ ap (λ j. Written.the-variants.Refused (not-read j)) e) (record { answer = refused k; exact = formed-text {r = refused k} (scope.solid-refused (by (judge operand-rooms t) (sym judged ∙ e))); outcome = record { told = refl; text = f .text ∙ ap (λ n. replicate {A = ℕ} n 0) {x = length out} {y = length out - 0} (omega arith) } })
     where
       by : (v : Verdict) → judgement v ≡ Judgement.the-variants.Refused k l → v ≡ refusal k l
       by (accepted a) q = differ (cc)
@@ -84,5 +84,5 @@ module _ {t : List ℕ} {xs xs′ : List ℤ} {ns ns′ : List ℕ} {w w′ : Li
       held = record { counts = read-in .counts; planes = h .planes ∙ ap (left (pos 0) (length xs) plane-numbers) (read-in .told) ∙ ap (λ n. left (pos 0) n plane-numbers (given (read-in .is))) (sym lx); nodes = h .nodes ∙ ap (left 0 (length ns) node-numbers) (read-in .told) ∙ ap (λ n. left 0 n node-numbers (given (read-in .is))) (sym ln) };
     }
 
-    pub solid-formed : (lx : length xs′ ≡ length xs) (ln : length ns′ ≡ length ns) → {out out′ : List ℕ} {r : Written.Written} → FormTold s xs′ ns′ out out′ r → WithTold forming t out out′ r
+    pub solid-formed : (lx : length xs′ ≡ length xs) (ln : length ns′ ≡ length ns) → {out out′ : List ℕ} {r : Written.Written} → SolidFormed s xs′ ns′ out out′ r → WithTold forming t out out′ r
     solid-formed lx ln {out} f = let g = f (solid-held lx ln) in record { answer = in-room (length out) (g .answer); exact = formed-text (subst (λ v. FormBy program-rooms v (g .answer)) (sym accepts) (g .exact)); outcome = g .outcome }

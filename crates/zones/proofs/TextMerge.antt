@@ -17,10 +17,10 @@ use Rattle.results.specs.declared.Given.{Given}
 use Rattle.merging.specs.Promises as merge
 use Rattle.inputs.specs.declared.OrderRead as OrderRead
 use Rattle.inputs.specs.Orders.{OrderHeld, OrderTold}
-use Rattle.outputs.specs.Outputs.{in-room, Gave, WriteTold}
+use Rattle.outputs.specs.Outputs.{in-room, Refuses, Gave, WriteTold}
 use Rattle.outputs.proofs.Held.{held-lent}
 use Rattle.zones.specs.Follows.{merge-lawful}
-use Rattle.zones.specs.Promises.{merging, unread, merged-text, not-ordered, WithTold, ResultIn, Holds, Merging, MergeTold}
+use Rattle.zones.specs.Promises.{merging, unread, merged-text, not-ordered, WithTold, ResultIn, Holds, Merging, OrderMerged}
 use Rattle.zones.proofs.TextCalls.{from-work, result-gave}
 
 -- ---- the merge's answer
@@ -44,12 +44,12 @@ module _ {op : ℕ} {s u : Solid} {pa : List ℤ} {na : List ℕ} {pb : List ℤ
 
 -- ---- the text
 
-pub order-refused : {t : List ℕ} (ap : List ℤ) (an : List ℕ) (bp : List ℤ) (bn : List ℕ) {out out′ : List ℕ} {o : OrderRead.OrderRead} {k l : ℕ} → o ≡ OrderRead.the-variants.Refused k l → OrderTold t ap an bp bn o → out′ ≡ replicate (length out) 0 → {r : Written.Written} → r ≡ not-ordered o → WithTold merging t out out′ r
-order-refused {t} pa na pb nb {out} {out′} {k = k} e h z f = rw (f ∙ ap not-ordered e) (record { answer = refused k; exact = unread (subst (OrderTold t pa na pb nb) e h); outcome = record { told = refl; text = z ∙ ap (λ n. replicate {A = ℕ} n 0) {x = length out} {y = length out - 0} (omega arith) } })
+pub order-refused : {t : List ℕ} (ap : List ℤ) (an : List ℕ) (bp : List ℤ) (bn : List ℕ) {out out′ : List ℕ} {o : OrderRead.OrderRead} {k l : ℕ} → o ≡ OrderRead.the-variants.Refused k l → OrderTold t ap an bp bn o → {r : Written.Written} → Refuses (not-ordered o) out out′ r → WithTold merging t out out′ r
+order-refused {t} pa na pb nb {out} {out′} {k = k} e h f = rw (f .number ∙ ap (λ o. Written.the-variants.Refused (not-ordered o)) e) (record { answer = refused k; exact = unread (subst (OrderTold t pa na pb nb) e h); outcome = record { told = refl; text = f .text ∙ ap (λ n. replicate {A = ℕ} n 0) {x = length out} {y = length out - 0} (omega arith) } })
 
 module _ {t : List ℕ} {pa : List ℤ} {na : List ℕ} {pb : List ℤ} {nb : List ℕ} {op : ℕ} {s u : Solid} (h : OrderHeld t pa na pb nb op s u) where
   abbrev pub order-held : Holds s pa na × Holds u pb nb
   order-held = let l = merge-read operand-rooms t op (h .first) (h .second) (h .judged) .lawful in (record { is = h .first; lawful = l .lawful-a; held = h .first-held }, record { is = h .second; lawful = l .lawful-b; held = h .second-held })
 
-  pub order-merged : {out out′ : List ℕ} {r : Written.Written} → MergeTold op s u pa na pb nb out out′ r → WithTold merging t out out′ r
+  pub order-merged : {out out′ : List ℕ} {r : Written.Written} → OrderMerged op s u pa na pb nb out out′ r → WithTold merging t out out′ r
   order-merged {out} f = let g = f (order-held .0) (order-held .1) in record { answer = in-room (length out) (g .answer); exact = merged-text (h .judged) (g .exact); outcome = g .outcome }

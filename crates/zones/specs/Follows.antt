@@ -6,7 +6,7 @@
 use mathlib.Core.Path.{_≡_, refl, sym, ap, subst, _∙_}
 use mathlib.Core.Bool.{Bool, true, false, cond}
 use mathlib.Core.List.{List}
-use mathlib.Core.Logic.{_↔_}
+use mathlib.Core.Logic.{_≢_, _↔_}
 use Prim.Native.Nat.{ℕ, _-_, _≤_}
 use native.Mathlib.Omega.{arith}
 use lib.Dec.{T, leb}
@@ -26,7 +26,7 @@ use Rattle.scope.specs.Answers.{Answer, given, refused, left, WithWork, short-w
 use Rattle.scope.specs.Answers as scope
 use Rattle.theory.specs.Answers.{Sound, sound-tables, solid-lawful, with-unique, merge-by-unique, form-by-unique, text-sound}
 use Rattle.theory.specs.Theorems as theorems
-use Rattle.theory.specs.Theorems.{form-lawful, same-text-same-space}
+use Rattle.theory.specs.Theorems.{form-lawful, same-text-same-space, Apart, forms-apart}
 use Rattle.theory.specs.Text.MergeInput.{merge-read}
 use Rattle.theory.specs.Text.Sizes.{text-length}
 use Rattle.theory.specs.Text.Trees.{LawfulTables, tables-lawful}
@@ -83,7 +83,7 @@ pub record FormGiven (A : Verdict) (c : Tables) : Type 0 where
 
 pub form-given : {s : Rooms} {A : Verdict} {c : Tables} {r : Answer Tables} → Sound A → FormBy s A r → r ≡ given c → FormGiven A c
 form-given la (solid-refused e) f = differ (cc)
-form-given {s} {c = c} la (formed a t e n) f = let g = given-tree s t c f in record { solid = a; solid-is = e; tree = t; right = n; lawful = form-lawful (solid-lawful la e) n (g .1) (g .2); is = g .0 }
+form-given {s} {c = c} la (formed a t e n) f = let g = given-tree s t c f in record { solid = a; solid-is = e; tree = t; right = n; lawful = form-lawful (solid-lawful la e) n (g .1); is = g .0 }
 
 pub form-given-lawful : {s : Rooms} {A : Verdict} {c : Tables} {r : Answer Tables} → Sound A → FormBy s A r → r ≡ given c → LawfulTables c
 form-given-lawful la m e = let g = form-given la m e in subst LawfulTables (g .is) (tables-lawful (g .tree) (g .lawful))
@@ -129,14 +129,15 @@ program-text {job} {t} {out} h e room = subst (Prints job t) (sym ((λ i. shown 
 
 -- ---- demand 3
 
--- two solids and their normal forms as bytes: the same bytes exactly when no point strictly in the box, off the planes of both, is in one
--- solid and out of the other
+-- two solids, which their texts fix (`solid-unique`), and their normal forms as bytes: the same bytes exactly when no point strictly in the
+-- box, off the planes of both, is in one solid and out of the other; other bytes, and there is such a point
 pub record Normals (t u bytes bytes′ : List ℕ) : Type 0 where
   pub first : Tree
   pub first-is : judge operand-rooms t ≡ accepted (tables-of first)
   pub second : Tree
   pub second-is : judge operand-rooms u ≡ accepted (tables-of second)
   pub same : (bytes ≡ bytes′) ↔ ((X : Point) → Inside box X → Off (planes first) X → Off (planes second) X → answers first X ≡ answers second X)
+  pub apart : bytes ≢ bytes′ → Apart first second
 
 -- a normal form that was shown as n bytes
 record Shown (t out out′ : List ℕ) (n : ℕ) : Type 0 where
@@ -173,5 +174,7 @@ same-bytes-same-space {t} {u} h k =
     let g = b .form in
     let e = a .bytes ∙ ap text (sym (f .is)) in
     let d = b .bytes ∙ ap text (sym (g .is)) in
-    let s = same-text-same-space (solid-lawful (text-sound operand-rooms t) (f .solid-is)) (solid-lawful (text-sound operand-rooms u) (g .solid-is)) (f .right) (g .right) (f .lawful) (g .lawful) in
-    record { first = f .solid; first-is = f .solid-is; second = g .solid; second-is = g .solid-is; same = (λ x. s .0 (sym e ∙ x ∙ d), λ x. e ∙ s .1 x ∙ sym d) }
+    let lf = solid-lawful (text-sound operand-rooms t) (f .solid-is) in
+    let lg = solid-lawful (text-sound operand-rooms u) (g .solid-is) in
+    let s = same-text-same-space lf lg (f .right) (g .right) (f .lawful) (g .lawful) in
+    record { first = f .solid; first-is = f .solid-is; second = g .solid; second-is = g .solid-is; same = (λ x. s .0 (sym e ∙ x ∙ d), λ x. e ∙ s .1 x ∙ sym d); apart = λ n. forms-apart lf lg (f .right) (g .right) (λ x. n (e ∙ ap text-of x ∙ sym d)) }

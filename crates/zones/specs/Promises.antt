@@ -3,7 +3,8 @@
 --     MergedText, FormedText, AnswerTo   the answer: what the text says, then the merge or the form, then room
 --     TextTold             the public call: that answer and no other, the text and the work table whole
 --     not-ordered, not-read   what an order and a solid refuse, told of the text
---     WithTold, TablesIn, WorkIn, SolidIn, FormTold, OrderIn, MergeTold   the same on the way
+--     WithTold, SolidIn, ResultIn, WorkIn, TablesIn, Holds   the same on the way
+--     OrderIn, Merging, OrderMerged, FormIn, Forming, SolidFormed   a merge and a normal form of solids that stand in tables
 use mathlib.Core.Path.{_≡_}
 use mathlib.Core.List.{List}
 use Prim.Native.Nat.{ℕ, _≤_}
@@ -51,13 +52,13 @@ pub record TextTold (job : Job) (t : List ℕ) (out out′ : List ℕ) (w w′ :
 -- ---- on the way
 
 -- the number of a refusal; what is read has none, and 0 is told
-abbrev pub not-ordered : OrderRead.OrderRead → Written.Written
-not-ordered (OrderRead.the-variants.Refused k l) = Written.the-variants.Refused k
-not-ordered (OrderRead.the-variants.Order o a b) = Written.the-variants.Refused 0
+abbrev pub not-ordered : OrderRead.OrderRead → ℕ
+not-ordered (OrderRead.the-variants.Refused k l) = k
+not-ordered (OrderRead.the-variants.Order o a b) = 0
 
-abbrev pub not-read : Judgement.Judgement → Written.Written
-not-read (Judgement.the-variants.Refused k l) = Written.the-variants.Refused k
-not-read (Judgement.the-variants.Sound s) = Written.the-variants.Refused 0
+abbrev pub not-read : Judgement.Judgement → ℕ
+not-read (Judgement.the-variants.Refused k l) = k
+not-read (Judgement.the-variants.Sound s) = 0
 
 pub record WithTold (job : Job) (t out out′ : List ℕ) (r : Written.Written) : Type 0 where
   pub answer : Answer (List ℕ)
@@ -104,8 +105,8 @@ pub record Merging (op : ℕ) (a b : Tables) (out out′ : List ℕ) (r : Writte
   pub exact : MergeBy program-rooms op (accepted a) (accepted b) answer
   pub outcome : Outcome (in-room (length out) answer) out out′ r
 
-abbrev pub MergeTold : ℕ → Solid → Solid → List ℤ → List ℕ → List ℤ → List ℕ → List ℕ → List ℕ → Written.Written → Type 0
-MergeTold op s u ap an bp bn out out′ r = (a : Holds s ap an) (b : Holds u bp bn) → Merging op (a .is) (b .is) out out′ r
+abbrev pub OrderMerged : ℕ → Solid → Solid → List ℤ → List ℕ → List ℤ → List ℕ → List ℕ → List ℕ → Written.Written → Type 0
+OrderMerged op s u ap an bp bn out out′ r = (a : Holds s ap an) (b : Holds u bp bn) → Merging op (a .is) (b .is) out out′ r
 
 -- ---- a normal form
 
@@ -118,5 +119,5 @@ pub record Forming (a : Tables) (out out′ : List ℕ) (r : Written.Written) : 
   pub exact : FormBy program-rooms (accepted a) answer
   pub outcome : Outcome (in-room (length out) answer) out out′ r
 
-abbrev pub FormTold : Solid → List ℤ → List ℕ → List ℕ → List ℕ → Written.Written → Type 0
-FormTold s ap an out out′ r = (a : Holds s ap an) → Forming (a .is) out out′ r
+abbrev pub SolidFormed : Solid → List ℤ → List ℕ → List ℕ → List ℕ → Written.Written → Type 0
+SolidFormed s ap an out out′ r = (a : Holds s ap an) → Forming (a .is) out out′ r

@@ -1,4 +1,4 @@
-// The public page: every call of the library. None has a precondition; each refuses by number and leaves every lent table as document 01
+// The public page: every call on solids and sections. None has a precondition; each refuses by number and leaves every lent table as document 01
 // says. Beside the calls of the crates below stand `merge_text` and `normal_text`, the merge and the normal form of a text: what the programs
 // run.
 mod merges;
@@ -6,6 +6,7 @@ mod normals;
 
 pub use forms::normal;
 pub use merging::merge;
+use outputs::refuse;
 pub use sections::section;
 use solids::Written;
 pub use solids::read;
@@ -21,8 +22,7 @@ pub fn merge_text(text: &[u8], out: &mut [u8], work: &mut [i64]) -> Written
 {
     zeros::clear(work);
     if work.len() < zeros::WORK {
-        zeros::clear_text(out);
-        return Written::Refused(8); // before an order is read
+        return refuse(8, out); // before an order is read
     }
     let r = merges::merge_lent(text, out, work);
     zeros::clear(work);
@@ -37,8 +37,7 @@ pub fn normal_text(text: &[u8], out: &mut [u8], work: &mut [i64]) -> Written
 {
     zeros::clear(work);
     if work.len() < zeros::WORK {
-        zeros::clear_text(out);
-        return Written::Refused(8); // before a solid is read
+        return refuse(8, out); // before a solid is read
     }
     let r = normals::normal_lent(text, out, work);
     zeros::clear(work);

@@ -1,18 +1,19 @@
 // The merge of a text, step by step: the order is read into tables, merged into tables, and written.
 use inputs::OrderRead;
+use outputs::refuse;
 use outputs::written;
 use solids::Written;
 use tables::Solid;
-ghost use mathlib.Core.Path.{_≡_};
-ghost use Rattle.zones.specs.Promises.{merging, not-ordered, TablesIn, WorkIn, OrderIn, MergeTold, WithTold};
+ghost use Rattle.outputs.specs.Outputs.{Refuses};
+ghost use Rattle.zones.specs.Promises.{merging, not-ordered, TablesIn, WorkIn, OrderIn, OrderMerged, WithTold};
 
 // The refusal of an order, told of its text. An order that is read has none: it is not asked for, and the number is 0.
-fn not_ordered(o: OrderRead) -> Written
-    ensures { λ r. ⌜ r ≡ not-ordered o ⌝ }
+fn not_ordered(o: OrderRead, out: &mut [u8]) -> Written
+    ensures { λ r. ⌜ Refuses (not-ordered o) (now (out .entry)) (now (out .exit)) r ⌝ }
 {
     match o {
-        OrderRead::Refused(k, _) => Written::Refused(k),
-        OrderRead::Order(_, _, _) => Written::Refused(0),
+        OrderRead::Refused(k, _) => refuse(k, out),
+        OrderRead::Order(_, _, _) => refuse(0, out),
     }
 }
 
@@ -31,7 +32,7 @@ fn merge_read(
     work: &mut [i64],
 ) -> Written
     requires { ⌜ OrderIn a b (now ap) (now an) (now bp) (now bn) (now planes) (now nodes) (now work) ⌝ }
-    ensures { λ r. ⌜ MergeTold op a b (now (ap .entry)) (now (an .entry)) (now (bp .entry)) (now (bn .entry)) (now (out .entry)) (now (out .exit)) r ⌝ }
+    ensures { λ r. ⌜ OrderMerged op a b (now (ap .entry)) (now (an .entry)) (now (bp .entry)) (now (bn .entry)) (now (out .entry)) (now (out .exit)) r ⌝ }
 {
     let m = merging::merge(
         op,
@@ -69,8 +70,7 @@ fn merge_with(
     zeros::clear_nodes(bn);
     let o = inputs::read_order(text, ap, an, bp, bn, work);
     let OrderRead::Order(op, a, b) = o else {
-        zeros::clear_text(out);
-        return not_ordered(o);
+        return not_ordered(o, out);
     };
     merge_read(op, a, b, ap, an, bp, bn, planes, nodes, out, work)
 }

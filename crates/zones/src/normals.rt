@@ -1,18 +1,19 @@
 // The normal form of a text, step by step: the solid is read into tables, its form is put out into tables, and written.
+use outputs::refuse;
 use outputs::written;
 use solids::Written;
 use tables::Judgement;
 use tables::Solid;
-ghost use mathlib.Core.Path.{_≡_};
-ghost use Rattle.zones.specs.Promises.{forming, not-read, SolidIn, ResultIn, WorkIn, FormIn, FormTold, WithTold};
+ghost use Rattle.outputs.specs.Outputs.{Refuses};
+ghost use Rattle.zones.specs.Promises.{forming, not-read, SolidIn, ResultIn, WorkIn, FormIn, SolidFormed, WithTold};
 
 // The refusal of a solid, told of its text. A solid that is read has none: it is not asked for, and the number is 0.
-fn not_read(j: Judgement) -> Written
-    ensures { λ r. ⌜ r ≡ not-read j ⌝ }
+fn not_read(j: Judgement, out: &mut [u8]) -> Written
+    ensures { λ r. ⌜ Refuses (not-read j) (now (out .entry)) (now (out .exit)) r ⌝ }
 {
     match j {
-        Judgement::Refused(k, _) => Written::Refused(k),
-        Judgement::Sound(_) => Written::Refused(0),
+        Judgement::Refused(k, _) => refuse(k, out),
+        Judgement::Sound(_) => refuse(0, out),
     }
 }
 
@@ -27,7 +28,7 @@ fn normal_read(
     work: &mut [i64],
 ) -> Written
     requires { ⌜ FormIn a (now ap) (now an) (now planes) (now nodes) (now work) ⌝ }
-    ensures { λ r. ⌜ FormTold a (now (ap .entry)) (now (an .entry)) (now (out .entry)) (now (out .exit)) r ⌝ }
+    ensures { λ r. ⌜ SolidFormed a (now (ap .entry)) (now (an .entry)) (now (out .entry)) (now (out .exit)) r ⌝ }
 {
     let m = forms::normal(
         &ap[0..4 * a.planes],
@@ -55,8 +56,7 @@ fn normal_with(
 {
     let j = solids::read(text, ap, an, work);
     let Judgement::Sound(a) = j else {
-        zeros::clear_text(out);
-        return not_read(j);
+        return not_read(j, out);
     };
     normal_read(a, ap, an, planes, nodes, out, work)
 }

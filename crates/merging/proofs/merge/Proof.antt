@@ -1,4 +1,4 @@
--- `merging::merge` meets its contract: what is left in the tables (proofs/Told). Assumes nothing.
+-- `merging::merge` meets its contract: what is left in the tables (Rattle.results, proofs/Calls). Assumes nothing.
 use mathlib.Core.Path.{ap, _∙_}
 use lib.IntN.{pos}
 use lib.ListN.{replicate}
@@ -11,17 +11,14 @@ use borrow.Author.Needs.{needs}
 use Rattle.merging.proofs.merge.Statement.{statement}
 use Rattle.merging.proofs.merge.Tie as tie
 
-clear-requires : tie.Need-clear-requires
-clear-requires c κs = search needs
-
-clear-nodes-requires : tie.Need-clear-nodes-requires
-clear-nodes-requires c κs = search needs
+wipe-requires : tie.Need-wipe-requires
+wipe-requires c κs = search needs
 
 merge-judged-requires : tie.Need-merge-judged-requires
-merge-judged-requires c κs = record { planes-zero = cleared (pos 0) (now (c .before .before .before .before .before .before .before .before .before .before .before .before .before .args .planes)) (c .before .before .before .before .before .before .before .before .clear .last .0) (c .before .before .before .before .before .before .before .before .clear .ensures); nodes-zero = cleared 0 (now (c .before .before .before .before .before .before .before .before .before .before .before .before .before .args .nodes)) (c .before .before .before .before .before .clear-nodes .last .0) (c .before .before .before .before .before .clear-nodes .ensures) }
+merge-judged-requires c κs = record { planes-zero = cleared (pos 0) (now (c .before .before .before .before .before .before .before .before .before .before .before .before .args .planes)) (c .before .before .before .before .before .before .wipe .last .0) (c .before .before .before .before .before .before .wipe .ensures .planes); nodes-zero = cleared 0 (now (c .before .before .before .before .before .before .before .before .before .before .before .before .args .nodes)) (c .before .before .before .before .before .before .wipe .last .1 .0) (c .before .before .before .before .before .before .wipe .ensures .nodes) }
 
-clear-requires-2 : tie.Need-clear-requires-2
-clear-requires-2 c κs = search needs
+clear-requires : tie.Need-clear-requires
+clear-requires c κs = search needs
 
 enum-known-m : tie.Need-enum-known-m
 enum-known-m c = search needs
@@ -29,11 +26,8 @@ enum-known-m c = search needs
 enum-told : tie.Need-enum-told
 enum-told c = search needs
 
-clear-requires-3 : tie.Need-clear-requires-3
-clear-requires-3 c κs = search needs
-
-clear-nodes-requires-2 : tie.Need-clear-nodes-requires-2
-clear-nodes-requires-2 c κs = search needs
+wipe-requires-2 : tie.Need-wipe-requires-2
+wipe-requires-2 c κs = search needs
 
 same-length : tie.Need-same-length
 same-length c = search needs
@@ -46,10 +40,10 @@ same-length-3 c = search needs
 
 returns : tie.Need-returns
 returns c =
-    let a = c .before .before .before .before .before .before .before .before .before .before .before .before .before .before .before .before .before .before .before .before .before .before .before .before .before .before .before .before .before .before .args in
-    let j = (c .before .before .before .before .before .before .before .before .before .before .before .before .before .before .before .before .merge-judged) in
-    told-refused {q = merge-of (a .op) (lent (now (a .ap)) (now (a .an)) (a .ar)) (lent (now (a .bp)) (now (a .bn)) (a .br))} (now (a .planes)) (now (a .nodes)) (now (a .work)) (c .before .before .before .before .before .before .before .before .before .before .before .before .before .before .before .before .before .before .before .before .before .before .before .before .before .clear .last .0) (c .before .before .before .before .before .before .before .before .before .before .before .before .before .before .before .before .before .before .before .before .before .before .clear-nodes .last .0) (c .before .before .before .before .before .before .before .before .before .before .before .before .before .before .before .before .before .before .before .before .before .before .before .before .before .clear .kept .0) (c .before .before .before .before .before .before .before .before .before .before .before .before .before .before .before .before .before .before .before .before .before .before .clear-nodes .kept .0) (j .ensures)
-    (c .before .before .before .before .before .before .before .enum-told .given .1) (c .before .before .before .before .before .clear3 .ensures ∙ ap (λ n. replicate n (pos 0)) (j .kept .1 .1 .1 .1 .1 .1 .1 .0 ∙ c .before .before .before .before .before .before .before .before .before .before .before .before .before .before .before .before .before .before .before .before .before .before .before .before .before .clear .kept .0)) (c .before .before .clear-nodes2 .ensures ∙ ap (λ n. replicate n 0) (j .kept .1 .1 .1 .1 .1 .1 .1 .1 .0 ∙ c .before .before .before .before .before .before .before .before .before .before .before .before .before .before .before .before .before .before .before .before .before .before .clear-nodes .kept .0)) (c .before .before .before .before .before .before .before .before .before .before .clear2 .ensures ∙ ap (λ n. replicate n (pos 0)) (j .kept .1 .1 .1 .1 .1 .1 .1 .1 .1 .0))
+    let a = c .before .before .before .before .before .before .before .before .before .before .before .before .before .before .before .before .before .before .before .before .before .before .before .before .before .before .before .before .args in
+    let j = (c .before .before .before .before .before .before .before .before .before .before .before .before .before .before .before .merge-judged) in
+    told-refused {q = merge-of (a .op) (lent (now (a .ap)) (now (a .an)) (a .ar)) (lent (now (a .bp)) (now (a .bn)) (a .br))} (now (a .planes)) (now (a .nodes)) (now (a .work)) (c .before .before .before .before .before .before .before .before .before .before .before .before .before .before .before .before .before .before .before .before .before .before .wipe .last .0) (c .before .before .before .before .before .before .before .before .before .before .before .before .before .before .before .before .before .before .before .before .before .before .wipe .last .1 .0) (c .before .before .before .before .before .before .before .before .before .before .before .before .before .before .before .before .before .before .before .before .before .before .wipe .kept .0) (c .before .before .before .before .before .before .before .before .before .before .before .before .before .before .before .before .before .before .before .before .before .before .wipe .kept .1 .0) (j .ensures)
+    (c .before .before .before .before .before .before .enum-told .given .1) (c .before .before .before .wipe2 .ensures .planes ∙ ap (λ n. replicate n (pos 0)) (j .kept .1 .1 .1 .1 .1 .1 .1 .0 ∙ c .before .before .before .before .before .before .before .before .before .before .before .before .before .before .before .before .before .before .before .before .before .before .wipe .kept .0)) (c .before .before .before .wipe2 .ensures .nodes ∙ ap (λ n. replicate n 0) (j .kept .1 .1 .1 .1 .1 .1 .1 .1 .0 ∙ c .before .before .before .before .before .before .before .before .before .before .before .before .before .before .before .before .before .before .before .before .before .before .wipe .kept .1 .0)) (c .before .before .before .before .before .before .before .before .before .clear .ensures ∙ ap (λ n. replicate n (pos 0)) (j .kept .1 .1 .1 .1 .1 .1 .1 .1 .1 .0))
 
 same-length-4 : tie.Need-same-length-4
 same-length-4 c = search needs
@@ -62,23 +56,21 @@ same-length-6 c = search needs
 
 returns-2 : tie.Need-returns-2
 returns-2 c =
-    let a = c .before .before .before .before .before .before .before .before .before .before .before .before .before .before .before .before .before .before .before .before .before .before .before .before .args in
+    let a = c .before .before .before .before .before .before .before .before .before .before .before .before .before .before .before .before .before .before .before .before .before .before .before .args in
     let j = (c .before .before .before .before .before .before .before .before .before .before .merge-judged) in
-    told-solid {q = merge-of (a .op) (lent (now (a .ap)) (now (a .an)) (a .ar)) (lent (now (a .bp)) (now (a .bn)) (a .br))} (now (a .planes)) (now (a .nodes)) (now (a .work)) (c .before .before .before .before .before .before .before .before .before .before .before .before .before .before .before .before .before .before .before .clear .last .0) (c .before .before .before .before .before .before .before .before .before .before .before .before .before .before .before .before .clear-nodes .last .0) (c .before .before .before .before .before .before .before .before .before .before .before .before .before .before .before .before .before .before .before .clear .kept .0) (c .before .before .before .before .before .before .before .before .before .before .before .before .before .before .before .before .clear-nodes .kept .0) (j .ensures)
-    (c .before .m .given .1) (j .kept .1 .1 .1 .1 .1 .1 .1 .0 ∙ c .before .before .before .before .before .before .before .before .before .before .before .before .before .before .before .before .before .before .before .clear .kept .0) (j .kept .1 .1 .1 .1 .1 .1 .1 .1 .0 ∙ c .before .before .before .before .before .before .before .before .before .before .before .before .before .before .before .before .clear-nodes .kept .0) (c .before .before .before .before .clear2 .ensures ∙ ap (λ n. replicate n (pos 0)) (j .kept .1 .1 .1 .1 .1 .1 .1 .1 .1 .0))
+    told-solid {q = merge-of (a .op) (lent (now (a .ap)) (now (a .an)) (a .ar)) (lent (now (a .bp)) (now (a .bn)) (a .br))} (now (a .planes)) (now (a .nodes)) (now (a .work)) (c .before .before .before .before .before .before .before .before .before .before .before .before .before .before .before .before .before .wipe .last .0) (c .before .before .before .before .before .before .before .before .before .before .before .before .before .before .before .before .before .wipe .last .1 .0) (c .before .before .before .before .before .before .before .before .before .before .before .before .before .before .before .before .before .wipe .kept .0) (c .before .before .before .before .before .before .before .before .before .before .before .before .before .before .before .before .before .wipe .kept .1 .0) (j .ensures)
+    (c .before .m .given .1) (j .kept .1 .1 .1 .1 .1 .1 .1 .0 ∙ c .before .before .before .before .before .before .before .before .before .before .before .before .before .before .before .before .before .wipe .kept .0) (j .kept .1 .1 .1 .1 .1 .1 .1 .1 .0 ∙ c .before .before .before .before .before .before .before .before .before .before .before .before .before .before .before .before .before .wipe .kept .1 .0) (c .before .before .before .before .clear .ensures ∙ ap (λ n. replicate n (pos 0)) (j .kept .1 .1 .1 .1 .1 .1 .1 .1 .1 .0))
 
 pub merge-spec : {M : Type 1} → statement M
 merge-spec =
     tie.close
     (tie.spec
-    clear-requires
-    clear-nodes-requires
+    wipe-requires
     merge-judged-requires
-    clear-requires-2
+    clear-requires
     enum-known-m
     enum-told
-    clear-requires-3
-    clear-nodes-requires-2
+    wipe-requires-2
     same-length
     same-length-2
     same-length-3

@@ -1,6 +1,7 @@
 -- `outputs::not_given` meets its contract. Assumes nothing.
-use mathlib.Core.Path.{sym, ap}
-use Rattle.outputs.specs.Outputs.{not-given}
+use mathlib.Core.Path.{sym, subst}
+use denote.Ref.{now}
+use Rattle.outputs.specs.Outputs.{Refuses, not-given}
 use borrow.Author.Needs.{needs}
 use Rattle.outputs.proofs.not_given.Statement.{statement}
 use Rattle.outputs.proofs.not_given.Tie as tie
@@ -8,14 +9,36 @@ use Rattle.outputs.proofs.not_given.Tie as tie
 enum-known-g : tie.Need-enum-known-g
 enum-known-g c = search needs
 
+refuse-requires : tie.Need-refuse-requires
+refuse-requires c κs = search needs
+
 enum-told : tie.Need-enum-told
 enum-told c = search needs
 
+refuse-requires-2 : tie.Need-refuse-requires-2
+refuse-requires-2 c κs = search needs
+
+same-length : tie.Need-same-length
+same-length c = search needs
+
 returns : tie.Need-returns
-returns c = sym (ap not-given (c .before .g .given .1))
+returns c = subst (λ x. Refuses (not-given x) (now (c .before .before .before .before .before .before .before .before .args .out)) (c .before .before .refuse .last .1 .0) (c .before .before .refuse .result)) (sym (c .before .before .before .before .before .g .given .1)) (c .before .before .refuse .ensures)
+
+same-length-2 : tie.Need-same-length-2
+same-length-2 c = search needs
 
 returns-2 : tie.Need-returns-2
-returns-2 c = sym (ap not-given (c .enum-told .given .1))
+returns-2 c = subst (λ x. Refuses (not-given x) (now (c .before .before .before .before .before .before .before .args .out)) (c .before .before .refuse2 .last .1 .0) (c .before .before .refuse2 .result)) (sym (c .before .before .before .before .enum-told .given .1)) (c .before .before .refuse2 .ensures)
 
 pub not-given-spec : {M : Type 1} → statement M
-not-given-spec = tie.close (tie.spec enum-known-g enum-told returns returns-2)
+not-given-spec =
+    tie.close
+    (tie.spec
+    enum-known-g
+    refuse-requires
+    enum-told
+    refuse-requires-2
+    same-length
+    returns
+    same-length-2
+    returns-2)

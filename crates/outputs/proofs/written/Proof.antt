@@ -13,9 +13,6 @@ enum-known-g c = search needs
 enum-told : tie.Need-enum-told
 enum-told c = search needs
 
-clear-text-requires : tie.Need-clear-text-requires
-clear-text-requires c κs = search needs
-
 not-given-requires : tie.Need-not-given-requires
 not-given-requires c κs = search needs
 
@@ -23,7 +20,7 @@ same-length : tie.Need-same-length
 same-length c = search needs
 
 returns : tie.Need-returns
-returns c = λ a h. written-refused h (c .before .before .before .before .before .enum-told .given .1) (c .before .before .before .clear-text .ensures) (c .not-given .ensures)
+returns c = λ a h. written-refused h (c .before .before .before .before .enum-told .given .1) (c .before .before .not-given .ensures)
 
 mul-write : tie.Need-mul-write
 mul-write c = record { fits = omega (arith, held-room (c .before .before .g .given .0 .0) (now (c .before .before .before .before .before .before .args .planes)) (now (c .before .before .before .before .before .before .args .nodes)) (result (c .before .before .before .before .before .before .pre .gave) (c .before .before .g .given .1) .is) (result (c .before .before .before .before .before .before .pre .gave) (c .before .before .g .given .1) .lawful) (result (c .before .before .before .before .before .before .pre .gave) (c .before .before .g .given .1) .held) .few-planes) }
@@ -67,7 +64,6 @@ written-spec =
     (tie.spec
     enum-known-g
     enum-told
-    clear-text-requires
     not-given-requires
     same-length
     returns

@@ -1,14 +1,16 @@
 -- Ascending lists: each list of planes has one ascending list of the same planes, and in it each plane has one place.
 --     Ascending, Same, ascending-one   no second ascending list has the same planes
 --     ascending-law, ascending-same    `ascending` gives it
+--     ascending-less                   one of some of the planes is no longer
 --     place-at, place-of               the place of a plane
 use mathlib.Core.Path.{_≡_, refl, sym, ap, ap₂, subst, _∙_}
 use mathlib.Core.Bool.{Bool, true, false, cond}
 use mathlib.Core.List.{List, [], _∷_}
 use mathlib.Core.Option.{some}
-use Prim.Native.Nat.{ℕ, zero, suc}
+use Prim.Native.Nat.{ℕ, zero, suc, _≤_}
 use lib.Dec.{T}
-use lib.ListN.{getElem?}
+use native.Mathlib.Omega.{arith}
+use lib.ListN.{length, getElem?}
 use Rattle.whole.specs.Tests.{is-true, is-false, differ}
 use Rattle.whole.specs.Members.{_∈_, here, there, elem-in}
 use Rattle.scope.specs.Planes.{Plane, before, equal}
@@ -93,6 +95,25 @@ insert-law p (q ∷ qs) (next h a) = go (before p q) (before q p) (λ t. record 
         to : (s : Plane) → s ∈ (p ∷ q ∷ qs) → s ∈ (q ∷ qs)
         to s (here d) = here (d ∙ e)
         to s (there m) = m
+
+-- an ascending list of planes of another is no longer
+pub ascending-less : {ps qs : List Plane} → Ascending ps → Ascending qs → ((p : Plane) → p ∈ ps → p ∈ qs) → length ps ≤ length qs
+ascending-less empty b f = omega arith
+ascending-less (next {p = p} h a) empty f = elim (f p (here refl)) [ ]
+ascending-less (next {p = p} {ps = ps} h a) (next {p = q} {ps = qs} g b) f = by (f p (here refl)) (λ k. ascending-less a b k) (λ k. ascending-less (next h a) b k)
+  where
+    -- what comes after p is not q
+    other : (x : Plane) → x ∈ ps → x ∈ (q ∷ qs) → (x ≡ q → ⊥) → x ∈ qs
+    other x m (here e) n = absurd (n e)
+    other x m (there i) n = i
+
+    by : p ∈ (q ∷ qs) → (((x : Plane) → x ∈ ps → x ∈ qs) → length ps ≤ length qs) → (((x : Plane) → x ∈ (p ∷ ps) → x ∈ qs) → length (p ∷ ps) ≤ length qs) → length (p ∷ ps) ≤ length (q ∷ qs)
+    by (here e) u v = let l = u (λ x m. other x m (f x (there m)) (λ d. before-irrefl (h x m) (e ∙ sym d))) in omega (arith, l)
+    by (there i) u v = let l = v (λ x m. into x m) in omega (arith, l)
+      where
+        into : (x : Plane) → x ∈ (p ∷ ps) → x ∈ qs
+        into x (here e) = subst (λ y. y ∈ qs) (sym e) i
+        into x (there m) = other x m (f x (there m)) (λ d. before-asym (h x m) (subst (λ y. Before y p) (sym d) (g p i)))
 
 pub ascending-law : (qs : List Plane) → Ascending (ascending qs)
 unfolding ascending

@@ -42,9 +42,6 @@ enum-known-o c = search needs
 enum-told : tie.Need-enum-told
 enum-told c = search needs
 
-clear-text-requires : tie.Need-clear-text-requires
-clear-text-requires c κs = search needs
-
 not-ordered-requires : tie.Need-not-ordered-requires
 not-ordered-requires c κs = search needs
 
@@ -67,7 +64,7 @@ same-length-6 : tie.Need-same-length-6
 same-length-6 c = search needs
 
 returns : tie.Need-returns
-returns c = order-refused (c .before .before .before .before .before .before .before .before .before .before .before .before .before .before .read-order .last .1 .0) (c .before .before .before .before .before .before .before .before .before .before .before .before .before .before .read-order .last .1 .1 .0) (c .before .before .before .before .before .before .before .before .before .before .before .before .before .before .read-order .last .1 .1 .1 .0) (c .before .before .before .before .before .before .before .before .before .before .before .before .before .before .read-order .last .1 .1 .1 .1 .0) (c .before .before .before .before .before .enum-told .given .1) (c .before .before .before .before .before .before .before .before .before .before .before .before .before .before .read-order .ensures) (c .before .before .before .clear-text .ensures) (c .not-ordered .ensures)
+returns c = order-refused (c .before .before .before .before .before .before .before .before .before .before .before .before .before .read-order .last .1 .0) (c .before .before .before .before .before .before .before .before .before .before .before .before .before .read-order .last .1 .1 .0) (c .before .before .before .before .before .before .before .before .before .before .before .before .before .read-order .last .1 .1 .1 .0) (c .before .before .before .before .before .before .before .before .before .before .before .before .before .read-order .last .1 .1 .1 .1 .0) (c .before .before .before .before .enum-told .given .1) (c .before .before .before .before .before .before .before .before .before .before .before .before .before .read-order .ensures) (c .before .before .not-ordered .ensures)
 
 -- the order that was read
 ordered : (c : tie.After-o) → OrderHeld (now (c .before .before .before .before .before .before .before .before .before .before .before .before .before .before .before .before .before .before .before .before .before .before .before .before .before .before .before .before .before .before .before .before .before .before .args .text)) (c .before .before .before .before .before .before .before .before .before .read-order .last .1 .0) (c .before .before .before .before .before .before .before .before .before .read-order .last .1 .1 .0) (c .before .before .before .before .before .before .before .before .before .read-order .last .1 .1 .1 .0) (c .before .before .before .before .before .before .before .before .before .read-order .last .1 .1 .1 .1 .0) (c .o .given .0 .0) (c .o .given .0 .1 .0) (c .o .given .0 .1 .1 .0)
@@ -117,7 +114,6 @@ merge-with-spec =
     read-order-requires
     enum-known-o
     enum-told
-    clear-text-requires
     not-ordered-requires
     same-length
     same-length-2

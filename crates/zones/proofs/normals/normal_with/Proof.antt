@@ -14,9 +14,6 @@ enum-known-j c = search needs
 enum-told : tie.Need-enum-told
 enum-told c = search needs
 
-clear-text-requires : tie.Need-clear-text-requires
-clear-text-requires c κs = search needs
-
 not-read-requires : tie.Need-not-read-requires
 not-read-requires c κs = search needs
 
@@ -33,7 +30,7 @@ same-length-4 : tie.Need-same-length-4
 same-length-4 c = search needs
 
 returns : tie.Need-returns
-returns c = solid-refused (c .before .before .before .before .before .before .before .before .before .before .before .before .before .before .before .before .before .before .before .pre .0) (c .before .before .before .before .before .before .before .before .before .before .before .before .before .before .before .before .before .before .before .pre .1 .enough) (c .before .before .before .before .before .before .before .before .before .before .before .read .ensures) (c .before .before .before .before .before .enum-told .given .1) (c .before .before .before .clear-text .ensures) (c .not-read .ensures)
+returns c = solid-refused (c .before .before .before .before .before .before .before .before .before .before .before .before .before .before .before .before .before .before .pre .0) (c .before .before .before .before .before .before .before .before .before .before .before .before .before .before .before .before .before .before .pre .1 .enough) (c .before .before .before .before .before .before .before .before .before .before .read .ensures) (c .before .before .before .before .enum-told .given .1) (c .before .before .not-read .ensures)
 
 normal-read-requires : tie.Need-normal-read-requires
 normal-read-requires c κs = record { solid = solid-held (c .before .before .before .before .before .before .before .before .before .before .before .before .before .before .before .before .before .before .before .before .before .pre .0) (c .before .before .before .before .before .before .before .before .before .before .before .before .before .before .before .before .before .before .before .before .before .pre .1 .enough) (c .before .before .before .before .before .before .before .before .before .before .before .before .before .read .ensures) (c .before .before .before .before .before .before .before .j .given .1) (c .before .before .before .before .before .before .before .before .before .before .before .before .before .read .kept .1 .0) (c .before .before .before .before .before .before .before .before .before .before .before .before .before .read .kept .1 .1 .0); result = record { planes = c .before .before .before .before .before .before .before .before .before .before .before .before .before .before .before .before .before .before .before .before .before .pre .1 .planes; nodes = c .before .before .before .before .before .before .before .before .before .before .before .before .before .before .before .before .before .before .before .before .before .pre .1 .nodes; enough = omega (arith, c .before .before .before .before .before .before .before .before .before .before .before .before .before .before .before .before .before .before .before .before .before .pre .1 .enough, c .before .before .before .before .before .before .before .before .before .before .before .before .before .read .kept .1 .1 .1 .0) } }
@@ -66,7 +63,6 @@ normal-with-spec =
     read-requires
     enum-known-j
     enum-told
-    clear-text-requires
     not-read-requires
     same-length
     same-length-2

@@ -1,0 +1,33 @@
+-- `skopelyne::skopelyne_section` meets its contract. Assumes nothing.
+use mathlib.Core.Path.{subst}
+use mir.Facts.{toZ-ofZ}
+use denote.Ref.{now}
+use Rattle.sections.specs.Promises.{SectionTold}
+use borrow.Author.Needs.{needs}
+use Rattle.skopelyne.proofs.skopelyne_section.Statement.{statement}
+use Rattle.skopelyne.proofs.skopelyne_section.Tie as tie
+
+section-requires : tie.Need-section-requires
+section-requires c κs = search needs
+
+bounded-requires : tie.Need-bounded-requires
+bounded-requires c κs = search needs
+
+same-length : tie.Need-same-length
+same-length c = search needs
+
+same-length-2 : tie.Need-same-length-2
+same-length-2 c = search needs
+
+returns : tie.Need-returns
+returns c = record { answer = c .before .before .before .before .section .result; promise = subst (λ p. SectionTold p (now (c .before .before .before .before .before .before .before .args .halves)) (now (c .before .before .before .before .before .before .before .args .bounds)) (c .before .before .before .before .section .last .1 .1 .0) (now (c .before .before .before .before .before .before .before .args .work)) (c .before .before .before .before .section .last .1 .1 .1 .0) (c .before .before .before .before .section .result)) (cc (toZ-ofZ (c .before .before .before .before .before .before .before .fits .a), toZ-ofZ (c .before .before .before .before .before .before .before .fits .b), toZ-ofZ (c .before .before .before .before .before .before .before .fits .c), toZ-ofZ (c .before .before .before .before .before .before .before .fits .d))) (c .before .before .before .before .section .ensures); number = c .bounded .ensures .0; count = c .bounded .ensures .1 }
+
+pub skopelyne-section-spec : {M : Type 1} → statement M
+skopelyne-section-spec =
+    tie.close
+    (tie.spec
+    section-requires
+    bounded-requires
+    same-length
+    same-length-2
+    returns)

@@ -1,0 +1,4 @@
+pub mod Numbers
+pub mod Exports
+pub mod Follows
+pub mod Zero
