@@ -35,7 +35,10 @@ normal-requires : tie.Need-normal-requires
 normal-requires c κs = search needs
 
 written-requires : tie.Need-written-requires
-written-requires c κs = record { answer = c .before .before .before .before .before .before .before .before .normal .ensures .answer; gave = form-gave (c .before .before .before .before .before .before .before .before .before .before .before .before .before .before .before .before .before .before .before .pre .solid) (c .before .before .before .before .before .before .before .before .before .before .before .before .before .before .before .before .before .before .before .pre .result) (c .before .before .before .before .before .before .before .before .normal .ensures) (c .before .before .before .before .before .before .before .before .normal .kept .1 .1 .1 .0) (c .before .before .before .before .before .before .before .before .normal .kept .1 .1 .1 .1 .0); enough = omega (arith, c .before .before .before .before .before .before .before .before .before .before .before .before .before .before .before .before .before .before .before .pre .result .enough, c .before .before .before .before .before .before .before .before .normal .kept .1 .1 .1 .1 .1 .0) }
+written-requires c κs =
+    let h = c .before .before .before .before .before .before .before .before .before .before .before .before .before .before .before .before .before .before .before .pre in
+    let n = c .before .before .before .before .before .before .before .before .normal in
+    record { answer = n .ensures .answer; gave = form-gave (h .solid) (h .result) (n .ensures) (n .kept .1 .1 .1 .0) (n .kept .1 .1 .1 .1 .0); enough = omega (arith, h .result .enough, n .kept .1 .1 .1 .1 .1 .0) }
 
 same-length : tie.Need-same-length
 same-length c = search needs
@@ -50,7 +53,10 @@ same-length-4 : tie.Need-same-length-4
 same-length-4 c = search needs
 
 returns : tie.Need-returns
-returns c = λ a. forming-told a (c .before .before .before .before .before .before .before .before .before .before .before .before .before .before .before .before .before .before .before .before .before .before .before .pre .result) (c .before .before .before .before .before .before .before .before .before .before .before .before .normal .ensures) (c .before .before .before .before .before .before .before .before .before .before .before .before .normal .kept .1 .1 .1 .0) (c .before .before .before .before .before .before .before .before .before .before .before .before .normal .kept .1 .1 .1 .1 .0) (c .before .before .before .written .ensures)
+returns c =
+    let h = c .before .before .before .before .before .before .before .before .before .before .before .before .before .before .before .before .before .before .before .before .before .before .before .pre in
+    let n = c .before .before .before .before .before .before .before .before .before .before .before .before .normal in
+    λ a. forming-told a (h .result) (n .ensures) (n .kept .1 .1 .1 .0) (n .kept .1 .1 .1 .1 .0) (c .before .before .before .written .ensures)
 
 pub normal-read-spec : {M : Type 1} → statement M
 normal-read-spec =
