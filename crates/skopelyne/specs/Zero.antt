@@ -3,24 +3,28 @@
 --     given-zero, given-refused       merge and normal form of lent tables
 --     read-zero, read-refused         reading
 --     write-zero, write-refused, text-zero, text-refused   writing, and the calls on texts
---     section-refused, point-zero, point-refused   section, point
+--     point-zero, point-refused, section-zero, section-refused   point, section
 use mathlib.Core.Path.{_≡_, refl, sym, ap, subst, _∙_}
 use mathlib.Core.Bool.{Bool, true, false, cond}
 use mathlib.Core.List.{List, [], _∷_}
 use mathlib.Core.Logic.{_≢_}
-use Prim.Native.Nat.{ℕ, _-_, _≤_}
+use mathlib.Core.Option.{Option, none, some}
+use Prim.Native.Nat.{ℕ, _-_, _/_, _≤_}
 use native.Mathlib.Omega.{arith}
 use lib.Dec.{leb}
 use lib.IntN.{ℤ, pos}
 use lib.ListN.{length, replicate}
 use Rattle.whole.specs.Tests.{differ}
+use Rattle.scope.specs.Limits.{stated, most-halves}
 use Rattle.scope.specs.Planes as scope-planes
 use Rattle.scope.specs.Planes.{Point}
+use Rattle.planes.specs.Values.{plane}
 use Rattle.planes.specs.declared.Plane.{Plane}
+use Rattle.scope.specs.Section.{section}
 use Rattle.scope.specs.Solids.{Tables, Reply}
 use Rattle.scope.specs.Text.{text}
 use Rattle.scope.specs.Judging.{Rooms, Verdict, accepted, refusal, judge, judge-lent}
-use Rattle.scope.specs.Answers.{Answer, given, refused, left, flat-planes, solid-then, write-answer, PointBy, bad-solid, bad-point, operand-rooms}
+use Rattle.scope.specs.Answers.{Answer, given, refused, left, flat-planes, solid-then, write-answer, bounds-by, no-faults, section-by, quads, quads-then, section-answer, PointBy, bad-solid, bad-point, operand-rooms}
 use Rattle.scope.specs.Answers as scope
 use Rattle.theory.specs.Numbers.{judge-number, lent-number, order-number, merge-number, form-number, work-number}
 use Rattle.tables.specs.declared.Solid.{Solid}
@@ -196,6 +200,35 @@ module _ {xs : List ℤ} {ns : List ℕ} {r : ℕ} {X : Point} {w w′ : List �
 
 -- ---- sections
 
+-- 8 for want of room
+bounds-number : (room : ℕ) (l : List scope-planes.Plane) {k : ℕ} → bounds-by room l ≡ refused k → 1 ≤ k
+bounds-number room [] e = differ (cc)
+bounds-number room (b ∷ l) {k} e = by (leb (length (b ∷ l)) room) e
+  where
+    by : (c : Bool) → cond c (given (b ∷ l)) (refused 8) ≡ refused k → 1 ≤ k
+    by true e = differ (cc)
+    by false e = let d : _≡_ {A = ℕ} 8 k = cc in omega (arith, d)
+
+-- 3, then 4
+halves-number : (room : ℕ) (s : scope-planes.Plane) (hs : List scope-planes.Plane) {k : ℕ} → section-by room s hs ≡ refused k → 1 ≤ k
+unfolding section-by
+halves-number room s hs {k} e = by (leb (length hs) most-halves) (no-faults (s ∷ hs)) e
+  where
+    by : (b c : Bool) → cond b (cond c (bounds-by room (section s hs)) (refused 4)) (refused 3) ≡ refused k → 1 ≤ k
+    by true true e = bounds-number room (section s hs) e
+    by true false e = let d : _≡_ {A = ℕ} 4 k = cc in omega (arith, d)
+    by false c e = let d : _≡_ {A = ℕ} 3 k = cc in omega (arith, d)
+
+-- 8 for a short work table, then 2
+section-number : (work room : ℕ) (s : scope-planes.Plane) (hs : List ℤ) {k : ℕ} → section-answer work room s hs ≡ refused k → 1 ≤ k
+unfolding section-answer
+section-number work room s hs {k} e = by (leb stated work) (quads hs) e
+  where
+    by : (b : Bool) (q : Option (List scope-planes.Plane)) → cond b (quads-then q (section-by (room / 4) s)) (refused 8) ≡ refused k → 1 ≤ k
+    by true (some l) e = halves-number (room / 4) s l e
+    by true none e = let d : _≡_ {A = ℕ} 2 k = cc in omega (arith, d)
+    by false q e = let d : _≡_ {A = ℕ} 8 k = cc in omega (arith, d)
+
 section-zeros : {s : Plane} {hs bs bs′ w w′ : List ℤ} {k : ℕ} → SectionTold s hs bs bs′ w w′ (Sectioned.the-variants.Refused k) → (bs′ ≡ replicate (length bs) (pos 0)) × (w′ ≡ replicate (length w) (pos 0))
 section-zeros {s} {hs} {bs} {w = w} {k = k} h = (h .bounds-left ∙ ap (left (pos 0) (length bs) flat-planes) (by (answer-to s hs bs w) (h .answer)) ∙ no-entries (pos 0) (length bs), h .work-left ∙ no-entries (pos 0) (length w))
   where
@@ -205,6 +238,14 @@ section-zeros {s} {hs} {bs} {w = w} {k = k} h = (h .bounds-left ∙ ap (left (po
     by (refused m) e = let d : k ≡ m = cc in ap refused (sym d)
 
 module _ {s : Plane} {hs bs bs′ w w′ : List ℤ} {k n : ℕ} (h : SectionOut s hs bs bs′ w w′ k n) where
+  -- bounds, or none, which is Nothing
+  pub section-zero : k ≡ 0 → (l : List scope-planes.Plane) × (answer-to s hs bs w ≡ given l)
+  section-zero e = by (answer-to s hs bs w) refl
+    where
+      by : (a : Answer (List scope-planes.Plane)) → answer-to s hs bs w ≡ a → (l : List scope-planes.Plane) × (answer-to s hs bs w ≡ given l)
+      by (given l) f = (l, f)
+      by (refused j) f = absurd (none-below (section-number (length w) (length bs) (plane s) hs f) (sym (h .number ∙ ap (λ a. section-as a .0) (h .promise .answer ∙ ap section-of f)) ∙ e))
+
   pub section-refused : k ≢ 0 → (n ≡ 0) × (bs′ ≡ replicate (length bs) (pos 0)) × (w′ ≡ replicate (length w) (pos 0))
   section-refused d = by (h .answer) (h .promise) (h .number) (h .count)
     where
