@@ -19,7 +19,8 @@ use Rattle.sections.specs.declared.Sectioned.{Sectioned}
 use Rattle.sections.specs.Promises.{SectionTold}
 use Rattle.results.specs.declared.Given.{Given}
 use Rattle.results.specs.Results.{Asked, Told}
-use Rattle.zones.specs.Promises.{Job, TextTold}
+use Rattle.texts.specs.Answers.{Job}
+use Rattle.zones.specs.Promises.{TextTold}
 use Rattle.skopelyne.specs.Numbers.{given-as, read-as, written-as, section-as, point-as, Counted}
 
 pub record GivenOut (q : Asked) (xs xs′ : List ℤ) (ns ns′ : List ℕ) (w w′ : List ℤ) (k p n r : ℕ) : Type 0 where

@@ -43,7 +43,8 @@ use Rattle.outputs.specs.Outputs.{in-room}
 use Rattle.results.specs.declared.Given as Given
 use Rattle.results.specs.Results.{Asked, merge-of, form-of, Right, rooms as results-rooms, Told}
 use Rattle.results.specs.Follows.{told-refusal}
-use Rattle.zones.specs.Promises.{Job, merging, forming, unread, merged-text, formed-text, AnswerTo, TextTold}
+use Rattle.texts.specs.Answers.{Job, merging, forming, unread, merged-text, formed-text, AnswerTo}
+use Rattle.zones.specs.Promises.{TextTold}
 use Rattle.skopelyne.specs.Numbers.{given-as, read-as, written-as, section-as, point-as}
 use Rattle.skopelyne.specs.Exports.{GivenOut, ReadOut, WriteOut, TextOut, SectionOut, PointOut}
 

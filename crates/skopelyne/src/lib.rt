@@ -11,7 +11,7 @@ ghost use mathlib.Core.Path.{_≡_};
 ghost use Rattle.planes.specs.Values.{quad};
 ghost use Rattle.theory.specs.Text.Lent.{lent};
 ghost use Rattle.results.specs.Results.{merge-of, form-of};
-ghost use Rattle.zones.specs.Promises.{merging, forming};
+ghost use Rattle.texts.specs.Answers.{merging, forming};
 ghost use Rattle.skopelyne.specs.Numbers.{given-as, read-as, written-as, section-as, point-as, Counted};
 ghost use Rattle.skopelyne.specs.Exports.{GivenOut, ReadOut, WriteOut, TextOut, SectionOut, PointOut};
 

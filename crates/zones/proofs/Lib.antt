@@ -1,3 +1,1 @@
 pub mod TextCalls
-pub mod TextMerge
-pub mod TextForm

@@ -1,6 +1,5 @@
 -- What follows from the promises of the merge and of the normal form of a text.
 --     text-told-unique     no second answer, and no second table, meets them
---     merge-lawful, form-given-lawful   a solid that is given is lawful
 --     Prints, program-text   with room for the longest text of a solid, what is shown is what document 01's program prints
 --     Normals, same-bytes-same-space   demand 3: two normal forms are the same bytes exactly when the solids are the same space
 use mathlib.Core.Path.{_≡_, refl, sym, ap, subst, _∙_}
@@ -17,24 +16,23 @@ use lib.Seq.{take-append-seam}
 use Rattle.whole.specs.Tests.{differ}
 use Rattle.scope.specs.Limits.{stated}
 use Rattle.scope.specs.Planes.{Point}
-use Rattle.scope.specs.Solids.{Tree, planes, Tables, tables-of, LawfulTree, answer as answers}
+use Rattle.scope.specs.Solids.{Tree, planes, Tables, tables-of, answer as answers}
 use Rattle.scope.specs.Cells.{Inside, box, Off}
-use Rattle.scope.specs.Normal.{NormalForm}
 use Rattle.scope.specs.Text.{text, text-of, refusal-line}
-use Rattle.scope.specs.Judging.{Rooms, Verdict, accepted, judge}
-use Rattle.scope.specs.Answers.{Answer, given, refused, left, WithWork, short-work, enough-work, MergeBy, no-operation, a-refused, b-refused, merged, FormBy, solid-refused, formed, printed, MergeText, FormText, operand-rooms, program-rooms}
+use Rattle.scope.specs.Judging.{accepted, judge}
+use Rattle.scope.specs.Answers.{Answer, given, refused, left, WithWork, short-work, enough-work, MergeBy, FormBy, printed, MergeText, FormText, operand-rooms, program-rooms}
 use Rattle.scope.specs.Answers as scope
-use Rattle.theory.specs.Answers.{Sound, sound-tables, solid-lawful, with-unique, merge-by-unique, form-by-unique, text-sound}
-use Rattle.theory.specs.Theorems as theorems
-use Rattle.theory.specs.Theorems.{form-lawful, same-text-same-space, Apart, forms-apart}
+use Rattle.theory.specs.Answers.{sound-tables, solid-lawful, with-unique, merge-by-unique, form-by-unique, text-sound}
+use Rattle.theory.specs.Theorems.{same-text-same-space, Apart, forms-apart}
 use Rattle.theory.specs.Text.MergeInput.{merge-read}
 use Rattle.theory.specs.Text.Sizes.{text-length}
-use Rattle.theory.specs.Text.Trees.{LawfulTables, tables-lawful}
+use Rattle.theory.specs.Text.Trees.{LawfulTables}
 use Rattle.solids.specs.declared.Written as Written
 use Rattle.solids.specs.Writing.{wrote, itself}
-use Rattle.results.specs.Follows.{given-tree}
 use Rattle.outputs.specs.Outputs.{in-room}
-use Rattle.zones.specs.Promises.{Job, merging, forming, MergedText, unread, merged-text, FormedText, formed-text, AnswerTo, TextTold}
+use Rattle.texts.specs.Answers.{Job, merging, forming, MergedText, unread, merged-text, FormedText, formed-text, AnswerTo}
+use Rattle.texts.specs.Lawful.{merge-lawful, FormGiven, form-given, form-given-lawful}
+use Rattle.zones.specs.Promises.{TextTold}
 
 -- ---- no second answer
 
@@ -61,32 +59,6 @@ pub text-told-unique : {job : Job} {t out out′ out″ : List ℕ} {w w′ w″
 text-told-unique {job} {t} {out} h k =
     let e : h .answer ≡ k .answer = with-unique (one-answer job t (length out)) (h .exact) (k .exact) in
     (h .told ∙ ap wrote e ∙ sym (k .told), h .text ∙ ap (left 0 (length out) itself) e ∙ sym (k .text), h .work ∙ sym (k .work))
-
--- ---- a solid that is given is lawful
-
-pub merge-lawful : {s : Rooms} {o : ℕ} {A B : Verdict} {c : Tables} {r : Answer Tables} → Sound A → Sound B → MergeBy s o A B r → r ≡ given c → LawfulTables c
-merge-lawful la lb (no-operation n) e = differ (cc)
-merge-lawful la lb (a-refused k f) e = differ (cc)
-merge-lawful la lb (b-refused t k f g) e = differ (cc)
-merge-lawful {s} la lb (merged x A B t eo ea eb w) e =
-    let g = given-tree s t _ e in
-    subst LawfulTables (g .0) (tables-lawful t (record { each = theorems.merge-lawful x (solid-lawful la ea) (solid-lawful lb eb) w; few-planes = g .2; few-rows = g .1 }))
-
--- a normal form that is given: the solid, and its form
-pub record FormGiven (A : Verdict) (c : Tables) : Type 0 where
-  pub solid : Tree
-  pub solid-is : A ≡ accepted (tables-of solid)
-  pub tree : Tree
-  pub right : NormalForm solid tree
-  pub lawful : LawfulTree tree
-  pub is : tables-of tree ≡ c
-
-pub form-given : {s : Rooms} {A : Verdict} {c : Tables} {r : Answer Tables} → Sound A → FormBy s A r → r ≡ given c → FormGiven A c
-form-given la (solid-refused e) f = differ (cc)
-form-given {s} {c = c} la (formed a t e n) f = let g = given-tree s t c f in record { solid = a; solid-is = e; tree = t; right = n; lawful = form-lawful (solid-lawful la e) n (g .1); is = g .0 }
-
-pub form-given-lawful : {s : Rooms} {A : Verdict} {c : Tables} {r : Answer Tables} → Sound A → FormBy s A r → r ≡ given c → LawfulTables c
-form-given-lawful la m e = let g = form-given la m e in subst LawfulTables (g .is) (tables-lawful (g .tree) (g .lawful))
 
 -- ---- what the programs print
 

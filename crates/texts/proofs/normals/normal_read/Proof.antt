@@ -1,11 +1,11 @@
--- `zones::normals::normal_read` meets its contract: the normal form, and what is written of it (proofs/TextForm). Assumes nothing.
+-- `texts::normals::normal_read` meets its contract: the normal form, and what is written of it (proofs/TextForm). Assumes nothing.
 use native.Mathlib.Omega.{arith}
 use denote.Ref.{now}
 use Rattle.outputs.proofs.Held.{held-room}
-use Rattle.zones.proofs.TextForm.{form-gave, forming-told}
+use Rattle.texts.proofs.TextForm.{form-gave, forming-told}
 use borrow.Author.Needs.{needs}
-use Rattle.zones.proofs.normals.normal_read.Statement.{statement}
-use Rattle.zones.proofs.normals.normal_read.Tie as tie
+use Rattle.texts.proofs.normals.normal_read.Statement.{statement}
+use Rattle.texts.proofs.normals.normal_read.Tie as tie
 
 mul-normal : tie.Need-mul-normal
 mul-normal c = record { fits = omega (arith, held-room (c .before .before .before .before .args .a) (now (c .before .before .before .before .args .ap)) (now (c .before .before .before .before .args .an)) (c .before .before .before .before .pre .solid .is) (c .before .before .before .before .pre .solid .lawful) (c .before .before .before .before .pre .solid .held) .few-planes) }

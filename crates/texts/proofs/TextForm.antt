@@ -26,9 +26,10 @@ use Rattle.results.specs.declared.Given.{Given}
 use Rattle.forms.specs.Promises.{NormalTold}
 use Rattle.outputs.specs.Outputs.{in-room, Refuses, Gave, WriteTold}
 use Rattle.outputs.proofs.Held.{held-lent}
-use Rattle.zones.specs.Follows.{form-given-lawful}
-use Rattle.zones.specs.Promises.{forming, formed-text, not-read, WithTold, SolidIn, ResultIn, Holds, Forming, SolidFormed}
-use Rattle.zones.proofs.TextCalls.{from-work, result-gave}
+use Rattle.texts.specs.Answers.{forming, formed-text}
+use Rattle.texts.specs.Steps.{not-read, WithTold, SolidIn, ResultIn, Holds, Forming, SolidFormed}
+use Rattle.texts.specs.Lawful.{form-given-lawful}
+use Rattle.texts.proofs.Calls.{from-work, result-gave}
 
 -- ---- the form's answer
 

@@ -1,11 +1,11 @@
--- `zones::merges::merge_read` meets its contract: the merge, and what is written of it (proofs/TextMerge). Assumes nothing.
+-- `texts::merges::merge_read` meets its contract: the merge, and what is written of it (proofs/TextMerge). Assumes nothing.
 use native.Mathlib.Omega.{arith}
 use denote.Ref.{now}
 use Rattle.outputs.proofs.Held.{held-room}
-use Rattle.zones.proofs.TextMerge.{merge-gave, merging-told}
+use Rattle.texts.proofs.TextMerge.{merge-gave, merging-told}
 use borrow.Author.Needs.{needs}
-use Rattle.zones.proofs.merges.merge_read.Statement.{statement}
-use Rattle.zones.proofs.merges.merge_read.Tie as tie
+use Rattle.texts.proofs.merges.merge_read.Statement.{statement}
+use Rattle.texts.proofs.merges.merge_read.Tie as tie
 
 mul-merge : tie.Need-mul-merge
 mul-merge c = record { fits = omega (arith, held-room (c .before .before .before .before .before .args .a) (now (c .before .before .before .before .before .args .ap)) (now (c .before .before .before .before .before .args .an)) (c .before .before .before .before .before .pre .first .is) (c .before .before .before .before .before .pre .first .lawful) (c .before .before .before .before .before .pre .first .held) .few-planes) }

@@ -5,7 +5,8 @@ use outputs::written;
 use solids::Written;
 use tables::Solid;
 ghost use Rattle.outputs.specs.Outputs.{Refuses};
-ghost use Rattle.zones.specs.Promises.{merging, not-ordered, TablesIn, WorkIn, OrderIn, OrderMerged, WithTold};
+ghost use Rattle.texts.specs.Answers.{merging};
+ghost use Rattle.texts.specs.Steps.{not-ordered, TablesIn, WorkIn, OrderIn, OrderMerged, WithTold};
 
 // The refusal of an order, told of its text. An order that is read has none: it is not asked for, and the number is 0.
 fn not_ordered(o: OrderRead, out: &mut [u8]) -> Written
@@ -18,7 +19,7 @@ fn not_ordered(o: OrderRead, out: &mut [u8]) -> Written
 }
 
 // The merge of A and B, whose rows stand in tables, put out into tables and written as text.
-fn merge_read(
+pub fn merge_read(
     op: u8,
     a: Solid,
     b: Solid,
@@ -50,7 +51,7 @@ fn merge_read(
 }
 
 // The merge of a text, with tables lent for the operands and for the result.
-fn merge_with(
+pub fn merge_with(
     text: &[u8],
     ap: &mut [i64],
     an: &mut [u16],

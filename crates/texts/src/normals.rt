@@ -5,7 +5,8 @@ use solids::Written;
 use tables::Judgement;
 use tables::Solid;
 ghost use Rattle.outputs.specs.Outputs.{Refuses};
-ghost use Rattle.zones.specs.Promises.{forming, not-read, SolidIn, ResultIn, WorkIn, FormIn, SolidFormed, WithTold};
+ghost use Rattle.texts.specs.Answers.{forming};
+ghost use Rattle.texts.specs.Steps.{not-read, SolidIn, ResultIn, WorkIn, FormIn, SolidFormed, WithTold};
 
 // The refusal of a solid, told of its text. A solid that is read has none: it is not asked for, and the number is 0.
 fn not_read(j: Judgement, out: &mut [u8]) -> Written
@@ -18,7 +19,7 @@ fn not_read(j: Judgement, out: &mut [u8]) -> Written
 }
 
 // The normal form of a solid, whose rows stand in tables, put out into tables and written as text.
-fn normal_read(
+pub fn normal_read(
     a: Solid,
     ap: &[i64],
     an: &[u16],
@@ -42,7 +43,7 @@ fn normal_read(
 }
 
 // The normal form of a text, with tables lent for the solid and for its form.
-fn normal_with(
+pub fn normal_with(
     text: &[u8],
     ap: &mut [i64],
     an: &mut [u16],

@@ -19,9 +19,10 @@ use Rattle.inputs.specs.declared.OrderRead as OrderRead
 use Rattle.inputs.specs.Orders.{OrderHeld, OrderTold}
 use Rattle.outputs.specs.Outputs.{in-room, Refuses, Gave, WriteTold}
 use Rattle.outputs.proofs.Held.{held-lent}
-use Rattle.zones.specs.Follows.{merge-lawful}
-use Rattle.zones.specs.Promises.{merging, unread, merged-text, not-ordered, WithTold, ResultIn, Holds, Merging, OrderMerged}
-use Rattle.zones.proofs.TextCalls.{from-work, result-gave}
+use Rattle.texts.specs.Answers.{merging, unread, merged-text}
+use Rattle.texts.specs.Steps.{not-ordered, WithTold, ResultIn, Holds, Merging, OrderMerged}
+use Rattle.texts.specs.Lawful.{merge-lawful}
+use Rattle.texts.proofs.Calls.{from-work, result-gave}
 
 -- ---- the merge's answer
 

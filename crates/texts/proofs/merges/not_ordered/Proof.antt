@@ -1,11 +1,11 @@
--- `zones::merges::not_ordered` meets its contract. Assumes nothing.
+-- `texts::merges::not_ordered` meets its contract. Assumes nothing.
 use mathlib.Core.Path.{sym, subst}
 use denote.Ref.{now}
 use Rattle.outputs.specs.Outputs.{Refuses}
-use Rattle.zones.specs.Promises.{not-ordered}
+use Rattle.texts.specs.Steps.{not-ordered}
 use borrow.Author.Needs.{needs}
-use Rattle.zones.proofs.merges.not_ordered.Statement.{statement}
-use Rattle.zones.proofs.merges.not_ordered.Tie as tie
+use Rattle.texts.proofs.merges.not_ordered.Statement.{statement}
+use Rattle.texts.proofs.merges.not_ordered.Tie as tie
 
 enum-known-o : tie.Need-enum-known-o
 enum-known-o c = search needs

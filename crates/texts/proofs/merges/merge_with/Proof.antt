@@ -1,14 +1,14 @@
--- `zones::merges::merge_with` meets its contract: the order is refused, or merged (proofs/TextMerge). Assumes nothing.
+-- `texts::merges::merge_with` meets its contract: the order is refused, or merged (proofs/TextMerge). Assumes nothing.
 use mathlib.Core.Path.{subst, _∙_}
 use native.Mathlib.Omega.{arith}
 use lib.IntN.{pos}
 use denote.Ref.{now}
 use Rattle.zeros.proofs.Fill.{cleared}
 use Rattle.inputs.specs.Orders.{OrderHeld, OrderTold}
-use Rattle.zones.proofs.TextMerge.{order-refused, order-held, order-merged}
+use Rattle.texts.proofs.TextMerge.{order-refused, order-held, order-merged}
 use borrow.Author.Needs.{needs}
-use Rattle.zones.proofs.merges.merge_with.Statement.{statement}
-use Rattle.zones.proofs.merges.merge_with.Tie as tie
+use Rattle.texts.proofs.merges.merge_with.Statement.{statement}
+use Rattle.texts.proofs.merges.merge_with.Tie as tie
 
 clear-requires : tie.Need-clear-requires
 clear-requires c κs = search needs

@@ -1,11 +1,11 @@
--- `zones::normals::not_read` meets its contract. Assumes nothing.
+-- `texts::normals::not_read` meets its contract. Assumes nothing.
 use mathlib.Core.Path.{sym, subst}
 use denote.Ref.{now}
 use Rattle.outputs.specs.Outputs.{Refuses}
-use Rattle.zones.specs.Promises.{not-read}
+use Rattle.texts.specs.Steps.{not-read}
 use borrow.Author.Needs.{needs}
-use Rattle.zones.proofs.normals.not_read.Statement.{statement}
-use Rattle.zones.proofs.normals.not_read.Tie as tie
+use Rattle.texts.proofs.normals.not_read.Statement.{statement}
+use Rattle.texts.proofs.normals.not_read.Tie as tie
 
 enum-known-j : tie.Need-enum-known-j
 enum-known-j c = search needs

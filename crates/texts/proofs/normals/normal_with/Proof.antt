@@ -1,9 +1,9 @@
--- `zones::normals::normal_with` meets its contract: the solid is refused, or put into its form (proofs/TextForm). Assumes nothing.
+-- `texts::normals::normal_with` meets its contract: the solid is refused, or put into its form (proofs/TextForm). Assumes nothing.
 use native.Mathlib.Omega.{arith}
-use Rattle.zones.proofs.TextForm.{solid-refused, solid-held, solid-formed}
+use Rattle.texts.proofs.TextForm.{solid-refused, solid-held, solid-formed}
 use borrow.Author.Needs.{needs}
-use Rattle.zones.proofs.normals.normal_with.Statement.{statement}
-use Rattle.zones.proofs.normals.normal_with.Tie as tie
+use Rattle.texts.proofs.normals.normal_with.Statement.{statement}
+use Rattle.texts.proofs.normals.normal_with.Tie as tie
 
 read-requires : tie.Need-read-requires
 read-requires c κs = search needs
