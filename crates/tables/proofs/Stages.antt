@@ -8,7 +8,7 @@ use Prim.Native.Nat.{ℕ, _+_, _/_, _%_, _≤_, _<_}
 use native.Mathlib.Omega.{arith}
 use lib.Dec.{leb}
 use lib.IntN.{ℤ, pos}
-use lib.ListN.{length, getD, replicate, getD-replicate}
+use lib.ListN.{length, replicate, getD-replicate}
 use borrow.Author.Tests.{leb-true}
 use Rattle.whole.specs.Tests.{_and_, differ, and-true}
 use Rattle.scope.specs.Limits.{most-planes, most-nodes}
@@ -82,17 +82,17 @@ module _ (xs : List ℤ) (ns : List ℕ) (root : ℕ) where
     pub left-over : length xs % 4 ≢ 0 → Judgement.Refused 2 (2 + t .planes) ≡ answer
     left-over h = ap (λ u. Judgement.Refused 2 (2 + u .planes)) (p .begins .is) ∙ ap (judgement xs ns root) (sym (planes-left xs ns root (p .fine) (p .begins .before) h))
 
-    pub nodes-ready : {w : List ℤ} → 1064 ≤ length w → w ≡ replicate (length w) (pos 0) → NodesReady ns t w
+    pub nodes-ready : NodesReady ns t (replicate 1064 (pos 0))
     unfolding marked
-    nodes-ready {w} r z =
+    nodes-ready =
         let f : t .planes ≡ length xs / 4 = ap (λ u. u .planes) (p .begins .is) in
         let g : t .nodes ≡ length ns / 3 = ap (λ u. u .nodes) (p .begins .is) in
         record {
           rows = omega arith;
           few-rows = omega (arith, p .begins .few-rows);
           few-planes = omega (arith, p .begins .few-planes);
-          room = r;
-          clear = λ k l. ap (λ v. not (is-zero v)) (ap (λ v. getD v (1000 + k) (pos 0)) z ∙ getD-replicate (length w) (1000 + k) (pos 0) (pos 0) (omega arith));
+          room = omega arith;
+          clear = λ k l. ap (λ v. not (is-zero v)) (getD-replicate 1064 (1000 + k) (pos 0) (pos 0) (omega arith));
         }
 
     module _ (whole : length xs % 4 ≡ 0) where

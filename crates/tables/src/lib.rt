@@ -1,5 +1,5 @@
 // The tables of a solid, judged row by row as document 01's "What may be refused" has it, and the walk of a point down its tree.
-// Planes are four numbers a row, nodes three: plane number, front code, back code. `judge` and `point` take any numbers.
+// Planes are four numbers a row, nodes three: plane number, front code, back code. `judge_rows`, `judge` and `point` take any numbers.
 use planes::MadePlane;
 use planes::MadePoint;
 use planes::Order;
@@ -10,7 +10,7 @@ ghost use mathlib.Core.Path.{_≡_};
 ghost use Prim.Native.Nat.{ℕ, _+_, _*_, _-_, _/_, _<_, _≤_};
 ghost use lib.Dec.{leb};
 ghost use lib.IntN.{pos, natAbs};
-ghost use lib.ListN.{length, getD, replicate};
+ghost use lib.ListN.{length, getD};
 ghost use Rattle.whole.specs.Tests.{_and_};
 ghost use Rattle.scope.specs.Planes.{side};
 ghost use Rattle.scope.specs.Judging.{root-ok, judge-head, follows, judge-lent};
@@ -356,9 +356,8 @@ fn judge_close(nodes: &[u16], s: Solid, work: &[i64], depth: usize) -> Judgement
     Judgement::Sound(s)
 }
 
-// Tables as if written out and read, with a work table of zeros.
-fn judge_rows(planes: &[i64], nodes: &[u16], root: u16, work: &mut [i64]) -> Judgement
-    requires { ⌜ (1064 ≤ length (now work)) × (now work ≡ replicate (length (now work)) (pos 0)) ⌝ }
+// Tables lent directly, as if written out and read.
+pub fn judge_rows(planes: &[i64], nodes: &[u16], root: u16) -> Judgement
     ensures { λ r. ⌜ r ≡ judgement (now (planes .entry)) (now (nodes .entry)) root (judge-lent (lent (now (planes .entry)) (now (nodes .entry)) root)) ⌝ }
 {
     let h = judge_counts(planes, nodes, root);
@@ -373,9 +372,10 @@ fn judge_rows(planes: &[i64], nodes: &[u16], root: u16, work: &mut [i64]) -> Jud
     if planes.len() % 4 != 0 {
         return Judgement::Refused(2, 2 + n);
     }
-    match judge_nodes(nodes, t, work) {
+    let mut work = [0i64; Solid::MOST_NODES + Solid::MOST_PLANES]; // the sizes of trees, and the marks of planes
+    match judge_nodes(nodes, t, &mut work) {
         Stood::Refused(k, l) => Judgement::Refused(k, l),
-        Stood::Depth(depth) => judge_close(nodes, t, work, depth),
+        Stood::Depth(depth) => judge_close(nodes, t, &work, depth),
     }
 }
 
@@ -387,9 +387,7 @@ pub fn judge(planes: &[i64], nodes: &[u16], root: u16, work: &mut [i64]) -> Judg
     if work.len() < zeros::WORK {
         return Judgement::Refused(8, 0);
     }
-    let j = judge_rows(planes, nodes, root, work);
-    zeros::clear(work); // of what the rows left
-    j
+    judge_rows(planes, nodes, root)
 }
 
 // ---- the walk of a point

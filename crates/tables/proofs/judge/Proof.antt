@@ -1,11 +1,9 @@
--- `tables::judge` meets its contract. The table is cleared before the rows are judged and after. Assumes nothing.
-use mathlib.Core.Path.{refl, sym, ap, _∙_}
+-- `tables::judge` meets its contract. The table is cleared first, and the rows are judged without it. Assumes nothing.
+use mathlib.Core.Path.{refl}
 use native.Mathlib.Omega.{arith}
 use borrow.Author.Tests.{le-leb, lt-leb}
-use lib.IntN.{pos}
-use lib.ListN.{length, replicate}
+use lib.ListN.{length}
 use denote.Ref.{now}
-use Rattle.zeros.proofs.Fill.{zeros}
 use borrow.Author.Needs.{needs}
 use Rattle.tables.proofs.judge.Statement.{statement}
 use Rattle.tables.proofs.judge.Tie as tie
@@ -23,26 +21,16 @@ returns c =
     record { exact = rw (lt-leb 4096 (length (now (s .args .work))) (omega (arith, l .kept .0, c .if1 .taken))) refl; zeros = l .ensures }
 
 judge-rows-requires : tie.Need-judge-rows-requires
-judge-rows-requires c κs =
-    let l = c .before .before .before .clear in
-    (omega (arith, c .before .if1 .left), l .ensures ∙ ap (λ n. replicate n (pos 0)) (sym (l .kept .0)))
-
-clear-requires-2 : tie.Need-clear-requires-2
-clear-requires-2 c κs = search needs
+judge-rows-requires c κs = search needs
 
 same-length-2 : tie.Need-same-length-2
 same-length-2 c = search needs
 
 returns-2 : tie.Need-returns-2
 returns-2 c =
-    let s = c .before .before .before .before .before .before .before .before .before .before .before in
-    let l = c .before .before .before .before .before .before .before .before .clear in
-    let j = c .before .before .before .before .judge-rows in
-    let k = c .before .clear2 in
-    record {
-      exact = rw (le-leb 4096 (length (now (s .args .work))) (omega (arith, l .kept .0, c .before .before .before .before .before .before .if1 .left))) (j .ensures);
-      zeros = k .ensures ∙ ap (λ n. replicate n (pos 0)) (j .kept .1 .1 .1 .0 ∙ l .kept .0);
-    }
+    let s = c .before .before .before .before .before .before in
+    let l = c .before .before .before .clear in
+    record { exact = rw (le-leb 4096 (length (now (s .args .work))) (omega (arith, l .kept .0, c .before .if1 .left))) (c .judge-rows .ensures); zeros = l .ensures }
 
 pub judge-spec : {M : Type 1} → statement M
 judge-spec =
@@ -52,6 +40,5 @@ judge-spec =
     same-length
     returns
     judge-rows-requires
-    clear-requires-2
     same-length-2
     returns-2)

@@ -63,11 +63,13 @@ returns-3 c =
     let a = c .before .before .before .before .before .before .before .before .before .before .args in
     left-over (now (a .planes)) (now (a .nodes)) (a .root) (ranked (c .before .before)) (c .if1 .taken)
 
+slice-aggregate-judge-nodes : tie.Need-slice-aggregate-judge-nodes
+slice-aggregate-judge-nodes c = search needs
+
 judge-nodes-requires : tie.Need-judge-nodes-requires
 judge-nodes-requires c κs =
-    let s = c .before .before .before .before .before .before .before .before .before .before .before in
-    let a = s .args in
-    nodes-ready (now (a .planes)) (now (a .nodes)) (a .root) (ranked (c .before .before .before)) (s .pre .0) (s .pre .1)
+    let a = c .before .before .before .before .before .before .before .before .before .before .before .args in
+    nodes-ready (now (a .planes)) (now (a .nodes)) (a .root) (ranked (c .before .before .before))
 
 enum-known-k : tie.Need-enum-known-k
 enum-known-k c = search needs
@@ -75,14 +77,13 @@ enum-known-k c = search needs
 enum-known-depth : tie.Need-enum-known-depth
 enum-known-depth c = search needs
 
+slice-aggregate-judge-close : tie.Need-slice-aggregate-judge-close
+slice-aggregate-judge-close c = search needs
+
 judge-close-requires : tie.Need-judge-close-requires
 judge-close-requires c κs =
-    let s = c .before .before .before .before .before .before .before .before .before .before .before .before .before .before .before .before .before in
     let f = few (c .before .before .before .before .before .before .before .before .before) in
-    (f .0, f .1, omega (arith, s .pre .0, c .before .before .before .before .before .judge-nodes .kept .1 .1 .0))
-
-same-length : tie.Need-same-length
-same-length c = search needs
+    (f .0, f .1, omega (arith, c .before .before .before .before .before .judge-nodes .kept .1 .1 .0))
 
 returns-4 : tie.Need-returns-4
 returns-4 c =
@@ -91,9 +92,6 @@ returns-4 c =
     let p = c .before .before .before .before .before .before .before .before in
     nodes-not (now (a .planes)) (now (a .nodes)) (a .root) (ranked p) (c .before .before .before .before .before .before .if1 .left)
     (subst (NodesJudged (now (a .nodes)) (p .p .given .0 .0) (n .last .1 .1 .0)) (c .before .k .given .1) (n .ensures))
-
-same-length-2 : tie.Need-same-length-2
-same-length-2 c = search needs
 
 returns-5 : tie.Need-returns-5
 returns-5 c =
@@ -118,11 +116,11 @@ judge-rows-spec =
     returns-2
     add-t16
     returns-3
+    slice-aggregate-judge-nodes
     judge-nodes-requires
     enum-known-k
     enum-known-depth
+    slice-aggregate-judge-close
     judge-close-requires
-    same-length
     returns-4
-    same-length-2
     returns-5)
