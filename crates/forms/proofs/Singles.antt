@@ -12,17 +12,19 @@ use lib.ListN.{length, take}
 use Rattle.scope.specs.Limits.{stated}
 use Rattle.scope.specs.Solids.{OUT, leaf, rows, planes, code, number, post, entries, ascending, tables-of}
 use Rattle.scope.specs.Cells.{union}
+use Rattle.scope.specs.Judging.{judge-lent}
 use Rattle.scope.specs.Text.{operation-code}
 use Rattle.scope.specs.Answers.{flat-planes, flat-nodes, refused, tree-answer, short-work, enough-work, solid-refused, formed}
 use Rattle.theory.specs.Theorems.{empty-lawful, form, form-single}
+use Rattle.theory.specs.Text.Lent.{lent}
 use Rattle.tables.specs.declared.Judgement as Judgement
 use Rattle.tables.specs.declared.Solid.{Solid}
-use Rattle.tables.specs.Promises.{SolidOf, Judges}
-use Rattle.tables.proofs.Points as points
+use Rattle.tables.specs.Promises.{SolidOf, judgement}
+use Rattle.tables.proofs.Points.{rows-refused, rows-sound}
 use Rattle.results.specs.declared.Given as Given
 use Rattle.results.specs.Results.{rooms, not-sound, ZerosIn}
 use Rattle.results.specs.Operands.{SoundIn}
-use Rattle.results.proofs.Calls.{judge-refused, nothing-held, enough}
+use Rattle.results.proofs.Calls.{nothing-held, enough}
 use Rattle.forms.specs.Promises.{BothTold, SingleIn, SingleTold, JudgedTold}
 
 -- ---- the empty solid
@@ -51,16 +53,15 @@ module _ {work : ℕ} {pa : List ℤ} {na : List ℕ} {ra : ℕ} {xs xs′ : Lis
   pub work-short : work < stated → JudgedTold work pa na ra xs xs′ ns ns′ (Given.the-variants.Refused 8)
   work-short h = record { answer = refused 8; exact = short-work (λ t. subst T (lt-leb stated work h) t); outcome = nothing-held 8 }
 
-  module _ (e : stated ≤ work) {w₀ w₁ : List ℤ} {i : Judgement.Judgement} (lw : length w₀ ≡ work) (a : Judges pa na ra w₀ w₁ i) where
+  module _ (e : stated ≤ work) {i : Judgement.Judgement} (a : i ≡ judgement pa na ra (judge-lent (lent pa na ra))) where
     pub solid-not : {k l : ℕ} → i ≡ Judgement.the-variants.Refused k l → {r : Given.Given} → r ≡ not-sound i → JudgedTold work pa na ra xs xs′ ns ns′ r
-    solid-not {k} d f = rw (f ∙ ap not-sound d) (record { answer = refused k; exact = enough-work (enough work e) (solid-refused (judge-refused a (omega (arith, lw, e)) d)); outcome = nothing-held k })
+    solid-not {k} d f = rw (f ∙ ap not-sound d) (record { answer = refused k; exact = enough-work (enough work e) (solid-refused (rows-refused pa na ra a d)); outcome = nothing-held k })
 
     pub solid-sound : {s : Solid} {r : Given.Given} → i ≡ Judgement.the-variants.Sound s → SingleTold pa na ra xs xs′ ns ns′ r → JudgedTold work pa na ra xs xs′ ns ns′ r
     solid-sound d f =
-        let q = points.judged-sound a d in
-        let A = points.tree-of a q in
-        let n = form (A .lawful) in
-        record { answer = tree-answer (rooms xs ns) (n .0); exact = enough-work (enough work e) (formed (q .tree) (n .0) (q .accepts) (n .1)); outcome = f (q .tree) (n .0) A (n .1) }
+        let q = rows-sound pa na ra a d in
+        let n = form (q .held .lawful) in
+        record { answer = tree-answer (rooms xs ns) (n .0); exact = enough-work (enough work e) (formed (q .tree) (n .0) (q .accepts) (n .1)); outcome = f (q .tree) (n .0) (q .held) (n .1) }
 
-pub judged-in : {pa : List ℤ} {na : List ℕ} {ra : ℕ} {xs : List ℤ} {ns : List ℕ} {path w₀ w₁ : List ℤ} {i : Judgement.Judgement} {s : Solid} → Judges pa na ra w₀ w₁ i → i ≡ Judgement.the-variants.Sound s → ZerosIn xs ns → 1024 ≤ length path → SingleIn pa na ra xs ns path
-judged-in a d z r = let q = points.judged-sound a d in record { tree = q .tree; solid = points.tree-of a q; zeros = z; path-room = r }
+pub judged-in : {pa : List ℤ} {na : List ℕ} {ra : ℕ} {xs : List ℤ} {ns : List ℕ} {path : List ℤ} {i : Judgement.Judgement} {s : Solid} → i ≡ judgement pa na ra (judge-lent (lent pa na ra)) → i ≡ Judgement.the-variants.Sound s → ZerosIn xs ns → 1024 ≤ length path → SingleIn pa na ra xs ns path
+judged-in {pa} {na} {ra} a d z r = let q = rows-sound pa na ra a d in record { tree = q .tree; solid = q .held; zeros = z; path-room = r }

@@ -119,8 +119,7 @@ fn form_single(
     form_sound(t, ap, an, &ap[0..0], &an[0..0], planes, nodes, path)
 }
 
-// The normal form of a solid, put out into tables of zeros, or the first refusal: the work table and the solid, as they are judged, and
-// then 8.
+// The normal form of a solid, put out into tables of zeros, or the first refusal: the work table, the solid, and then 8.
 fn normal_judged(
     ap: &[i64],
     an: &[u16],
@@ -135,7 +134,7 @@ fn normal_judged(
     if work.len() < zeros::WORK {
         return Given::Refused(8);
     }
-    let j = tables::judge(ap, an, ar, work);
+    let j = tables::judge_rows(ap, an, ar);
     let Judgement::Sound(_) = j else {
         return not_sound(j);
     };

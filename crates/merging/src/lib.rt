@@ -130,11 +130,11 @@ fn merge_judged(
     if !known(op) {
         return Given::Refused(7);
     }
-    let a = tables::judge(ap, an, ar, work);
+    let a = tables::judge_rows(ap, an, ar);
     let Judgement::Sound(_) = a else {
         return not_sound(a);
     };
-    let b = tables::judge(bp, bn, br, work);
+    let b = tables::judge_rows(bp, bn, br);
     let Judgement::Sound(_) = b else {
         return not_sound(b);
     };

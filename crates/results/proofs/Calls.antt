@@ -1,8 +1,7 @@
 -- The refusals of a call that gives a solid, and its promise.
---     judge-refused, nothing-held, enough   a solid that is refused; a refusal holds nothing; a work table that is long enough
+--     nothing-held, enough            a refusal holds nothing; a work table that is long enough
 --     told-refused, told-solid        what is left in the tables
 use mathlib.Core.Path.{_≡_, refl, sym, ap, subst, _∙_}
-use mathlib.Core.Bool.{cond}
 use mathlib.Core.List.{List, []}
 use Prim.Native.Nat.{ℕ, _-_, _/_, _≤_}
 use native.Mathlib.Omega.{arith}
@@ -13,24 +12,13 @@ use lib.ListN.{length, replicate}
 use Rattle.whole.specs.Tests.{differ}
 use Rattle.scope.specs.Limits.{stated}
 use Rattle.scope.specs.Solids.{Tables}
-use Rattle.scope.specs.Judging.{Verdict, accepted, refusal, judge-lent}
 use Rattle.scope.specs.Answers.{Answer, given, refused, plane-numbers, node-numbers, filled, left}
-use Rattle.theory.specs.Text.Lent.{lent}
-use Rattle.tables.specs.declared.Judgement as Judgement
 use Rattle.tables.specs.declared.Solid.{Solid}
-use Rattle.tables.specs.Promises.{judgement, Judges}
 use Rattle.results.specs.declared.Given as Given
 use Rattle.results.specs.Results.{Asked, Right, rooms, given-of, Told, Outcome, Judged}
 use Rattle.results.specs.Follows.{refused-by}
 
--- ---- a solid that is refused
-
-pub judge-refused : {xs : List ℤ} {ns : List ℕ} {r : ℕ} {w w′ : List ℤ} {j : Judgement.Judgement} → Judges xs ns r w w′ j → stated ≤ length w → {k l : ℕ} → j ≡ Judgement.the-variants.Refused k l → judge-lent (lent xs ns r) ≡ refusal k l
-judge-refused {xs} {ns} {r} {w} h e {k} {l} f = by (judge-lent (lent xs ns r)) (ap (λ b. cond b (judgement xs ns r (judge-lent (lent xs ns r))) (Judgement.the-variants.Refused 8 0)) (sym (le-leb stated (length w) e)) ∙ sym (h .exact) ∙ f)
-  where
-    by : (v : Verdict) → judgement xs ns r v ≡ Judgement.the-variants.Refused k l → v ≡ refusal k l
-    by (accepted a) i = differ (cc)
-    by (refusal n m) i = cc
+-- ---- a refusal
 
 -- a refusal holds nothing
 pub nothing-held : {xs : List ℤ} {ns : List ℕ} (k : ℕ) → Outcome (refused k) xs ns (Given.the-variants.Refused k)

@@ -1,4 +1,4 @@
--- The point call, from what it calls: the answer that the code comes to is document 01's at each way out.
+-- Lent tables that are refused or sound, and the point call, from what it calls: the answer that the code comes to is document 01's at each way out.
 use mathlib.Core.Path.{_≡_, refl, sym, ap, subst, _∙_}
 use mathlib.Core.Bool.{Bool, true, false, cond}
 use mathlib.Core.List.{List}
@@ -57,47 +57,60 @@ module _ {x y z w : ℤ} {r : MadePoint} (h : PointMade x y z w r) where
 
 -- ---- the solid
 
-module _ {xs : List ℤ} {ns : List ℕ} {root : ℕ} {w w′ : List ℤ} {j : Judgement} (h : Judges xs ns root w w′ j) where
-  judged-not : {k l : ℕ} (v : Verdict) → judgement xs ns root v ≡ Judgement.Refused k l → v ≡ refusal k l
-  judged-not (accepted a) e = differ (cc)
-  judged-not (refusal k l) e = cc
+module _ (xs : List ℤ) (ns : List ℕ) (root : ℕ) where
+  -- the solid is sound, and is that of a tree
+  pub record Sound : Type 0 where
+    pub tree : Tree
+    pub accepts : judge-lent (lent xs ns root) ≡ accepted (tables-of tree)
+    pub held : SolidOf xs ns root tree
 
+  module _ {j : Judgement} (h : j ≡ judgement xs ns root (judge-lent (lent xs ns root))) where
+    pub rows-refused : {k l : ℕ} → j ≡ Judgement.Refused k l → judge-lent (lent xs ns root) ≡ refusal k l
+    rows-refused {k} {l} e = by (judge-lent (lent xs ns root)) (sym h ∙ e)
+      where
+        by : (v : Verdict) → judgement xs ns root v ≡ Judgement.Refused k l → v ≡ refusal k l
+        by (accepted a) i = differ (cc)
+        by (refusal m n) i = cc
+
+    pub rows-sound : {s : Solid} → j ≡ Judgement.Sound s → Sound
+    rows-sound {s} e = by (judge-lent (lent xs ns root)) refl (sym h ∙ e)
+      where
+        by : (v : Verdict) → judge-lent (lent xs ns root) ≡ v → judgement xs ns root v ≡ Judgement.Sound s → Sound
+        by (accepted a) g i =
+            let u = solid (lent-sound (lent xs ns root)) a g in
+            record { tree = u .0; accepts = u .1; held = record { lawful = solid-lawful (lent-sound (lent xs ns root)) (u .1); flat = lent-taken xs ns root (tables-of (u .0)) (u .1) .0 } }
+        by (refusal k l) g i = differ (cc)
+
+-- ---- the point call
+
+module _ {xs : List ℤ} {ns : List ℕ} {root : ℕ} {w w′ : List ℤ} {j : Judgement} (h : Judges xs ns root w w′ j) where
   -- the work table or the solid is refused
   pub tell-refused : (X : Point) {a : Told} {k l : ℕ} → j ≡ Judgement.Refused k l → a ≡ number-of j → Tells xs ns root X w w′ a
   tell-refused X {a} {k} {l} e f = rw (f ∙ ap number-of e) (record { answer = go (leb stated (length w)) refl (sym (h .exact) ∙ e); zeros = h .zeros })
     where
       go : (b : Bool) → leb stated (length w) ≡ b → cond b (judgement xs ns root (judge-lent (lent xs ns root))) (Judgement.Refused 8 0) ≡ Judgement.Refused k l → PointAnswer (length w) (lent xs ns root) X (refused k)
-      go true g i = enough-work (true-is (leb stated (length w)) g) (bad-solid (judged-not (judge-lent (lent xs ns root)) i))
+      go true g i = enough-work (true-is (leb stated (length w)) g) (bad-solid (rows-refused xs ns root (sym i) refl))
       go false g i = let m : _≡_ {A = ℕ} 8 k = cc in subst (λ m. PointAnswer (length w) (lent xs ns root) X (refused m)) m (short-work (λ t. subst T g t))
 
-  -- the solid is sound, and is that of a tree
-  pub record Sound : Type 0 where
-    pub enough : T (leb stated (length w))
-    pub tree : Tree
-    pub accepts : judge-lent (lent xs ns root) ≡ accepted (tables-of tree)
+  module _ {s : Solid} (e : j ≡ Judgement.Sound s) where
+    -- the work table is long enough
+    long : T (leb stated (length w)) × (j ≡ judgement xs ns root (judge-lent (lent xs ns root)))
+    long = go (leb stated (length w)) refl (h .exact)
+      where
+        go : (b : Bool) → leb stated (length w) ≡ b → j ≡ cond b (judgement xs ns root (judge-lent (lent xs ns root))) (Judgement.Refused 8 0) → T (leb stated (length w)) × (j ≡ judgement xs ns root (judge-lent (lent xs ns root)))
+        go true g i = (true-is (leb stated (length w)) g, i)
+        go false g i = differ (cc)
 
-  pub judged-sound : {s : Solid} → j ≡ Judgement.Sound s → Sound
-  judged-sound {s} e = go (leb stated (length w)) refl (sym (h .exact) ∙ e)
-    where
-      at : T (leb stated (length w)) → (v : Verdict) → judge-lent (lent xs ns root) ≡ v → judgement xs ns root v ≡ Judgement.Sound s → Sound
-      at t (accepted a) g i = let u = solid (lent-sound (lent xs ns root)) a g in record { enough = t; tree = u .0; accepts = u .1 }
-      at t (refusal k l) g i = differ (cc)
-
-      go : (b : Bool) → leb stated (length w) ≡ b → cond b (judgement xs ns root (judge-lent (lent xs ns root))) (Judgement.Refused 8 0) ≡ Judgement.Sound s → Sound
-      go true g i = at (true-is (leb stated (length w)) g) (judge-lent (lent xs ns root)) refl i
-      go false g i = differ (cc)
-
-  module _ (s : Sound) where
-    pub tree-of : SolidOf xs ns root (s .tree)
-    tree-of = record { lawful = solid-lawful (lent-sound (lent xs ns root)) (s .accepts); flat = lent-taken xs ns root (tables-of (s .tree)) (s .accepts) .0 }
+    pub judged-sound : Sound xs ns root
+    judged-sound = rows-sound xs ns root (long .1) e
 
     -- the point is refused
     pub tell-bad : (X : Point) → ¬ T (point-ok X) → Tells xs ns root X w w′ (Told.Refused 10)
-    tell-bad X n = record { answer = enough-work (s .enough) (bad-point (s .tree) (s .accepts) n); zeros = h .zeros }
+    tell-bad X n = record { answer = enough-work (long .0) (bad-point (judged-sound .tree) (judged-sound .accepts) n); zeros = h .zeros }
 
     -- the walk's answer
     pub tell-walked : (X : Point) {a : Told} → T (point-ok X) → Walked xs ns root X a → Tells xs ns root X w w′ a
-    tell-walked X {a} ok k = rw (k .exact (s .tree) tree-of) (record { answer = enough-work (s .enough) (subst (PointBy (lent xs ns root) X) (sym (back (reply (s .tree) X))) (answers (s .tree) (s .accepts) ok)); zeros = h .zeros })
+    tell-walked X {a} ok k = let q = judged-sound in rw (k .exact (q .tree) (q .held)) (record { answer = enough-work (long .0) (subst (PointBy (lent xs ns root) X) (sym (back (reply (q .tree) X))) (answers (q .tree) (q .accepts) ok)); zeros = h .zeros })
       where
         back : (r : Reply) → told-answer (told r) ≡ given r
         back (marked IN) = refl

@@ -1,5 +1,4 @@
 -- `forms::normal_judged` meets its contract: at each way out the answer is document 01's (proofs/Singles). Assumes nothing.
-use mathlib.Core.Path.{refl}
 use native.Mathlib.Omega.{arith}
 use Rattle.forms.proofs.Singles.{work-short, solid-not, solid-sound, judged-in}
 use borrow.Author.Needs.{needs}
@@ -9,8 +8,8 @@ use Rattle.forms.proofs.normal_judged.Tie as tie
 returns : tie.Need-returns
 returns c = work-short (c .if1 .taken)
 
-judge-requires : tie.Need-judge-requires
-judge-requires c κs = search needs
+judge-rows-requires : tie.Need-judge-rows-requires
+judge-rows-requires c κs = search needs
 
 enum-told : tie.Need-enum-told
 enum-told c = search needs
@@ -21,14 +20,18 @@ enum-told-2 c = search needs
 not-sound-requires : tie.Need-not-sound-requires
 not-sound-requires c κs = search needs
 
-same-length : tie.Need-same-length
-same-length c = search needs
-
 returns-2 : tie.Need-returns-2
-returns-2 c = solid-not (omega (arith, c .before .before .before .before .before .before .if1 .left)) refl (c .before .before .before .before .judge .ensures) (c .before .enum-told2 .given .1) (c .not-sound .ensures)
+returns-2 c =
+    let j = c .before .before .before in
+    solid-not (omega (arith, j .before .if1 .left)) (j .judge-rows .ensures) (c .before .enum-told2 .given .1) (c .not-sound .ensures)
 
 form-single-requires : tie.Need-form-single-requires
-form-single-requires c κs = judged-in (c .before .before .before .before .before .before .judge .ensures) (c .before .before .before .enum-told .given .1) (c .before .before .before .before .before .before .before .before .before .before .before .pre) (omega (arith, c .before .before .before .before .before .before .judge .kept .1 .1 .1 .0, c .before .before .before .before .before .before .before .before .if1 .left))
+form-single-requires c κs =
+    let j = c .before .before .before .before .before in
+    judged-in (j .judge-rows .ensures) (c .before .before .before .enum-told .given .1) (j .before .before .before .before .pre) (omega (arith, j .before .if1 .left))
+
+same-length : tie.Need-same-length
+same-length c = search needs
 
 same-length-2 : tie.Need-same-length-2
 same-length-2 c = search needs
@@ -36,25 +39,23 @@ same-length-2 c = search needs
 same-length-3 : tie.Need-same-length-3
 same-length-3 c = search needs
 
-same-length-4 : tie.Need-same-length-4
-same-length-4 c = search needs
-
 returns-3 : tie.Need-returns-3
-returns-3 c = solid-sound (omega (arith, c .before .before .before .before .before .before .before .before .before .before .before .before .before .if1 .left)) refl (c .before .before .before .before .before .before .before .before .before .before .before .judge .ensures) (c .before .before .before .before .before .before .before .before .enum-told .given .1) (c .before .before .before .before .form-single .ensures)
+returns-3 c =
+    let j = c .before .before .before .before .before .before .before .before .before .before in
+    solid-sound (omega (arith, j .before .if1 .left)) (j .judge-rows .ensures) (c .before .before .before .before .before .before .before .before .enum-told .given .1) (c .before .before .before .before .form-single .ensures)
 
 pub normal-judged-spec : {M : Type 1} → statement M
 normal-judged-spec =
     tie.close
     (tie.spec
     returns
-    judge-requires
+    judge-rows-requires
     enum-told
     enum-told-2
     not-sound-requires
-    same-length
     returns-2
     form-single-requires
+    same-length
     same-length-2
     same-length-3
-    same-length-4
     returns-3)

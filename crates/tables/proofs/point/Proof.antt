@@ -15,7 +15,7 @@ use Rattle.planes.specs.declared.MadePoint.{MadePoint}
 use Rattle.planes.specs.declared.MadePoint.the-variants.{Made}
 use Rattle.planes.proofs.MadePoint.{the-type}
 use Rattle.tables.specs.Promises.{Walked}
-use Rattle.tables.proofs.Points.{made-good, made-bad, tell-refused, judged-sound, tree-of, tell-bad, tell-walked}
+use Rattle.tables.proofs.Points.{made-good, made-bad, tell-refused, judged-sound, tell-bad, tell-walked}
 use borrow.Author.Needs.{needs}
 use Rattle.tables.proofs.point.Statement.{statement}
 use Rattle.tables.proofs.point.Tie as tie
@@ -65,7 +65,7 @@ returns-2 : tie.Need-returns-2
 returns-2 c =
     let s = c .before .before .before .before .before .before .before .before in
     let j = c .before .before .before .before .before .judge .ensures in
-    tell-bad j (judged-sound j (c .before .before .enum-told .given .1)) (X s)
+    tell-bad j (c .before .before .enum-told .given .1) (X s)
     (made-bad (made (c .before)) (λ p e. ⊎-elim (λ z. differ (cc)) (λ z. differ (cc)) (not-made (c .before .new .result) (Made p) (c .match2 .keys2) e)))
 
 walk-requires : tie.Need-walk-requires
@@ -73,7 +73,7 @@ walk-requires c κs =
     let j = c .before .before .before .before .before .before .before .judge .ensures in
     let t = judged-sound j (c .before .before .before .before .enum-told .given .1) in
     let g = made-good (made (c .before .before .before)) (c .before .p .given .1) in
-    record { tree = t .tree; solid = tree-of j t; point-in = subst (λ u. PointIn (u .x) (u .y) (u .z) (u .w)) (sym (g .same)) (g .limits) }
+    record { tree = t .tree; solid = t .held; point-in = subst (λ u. PointIn (u .x) (u .y) (u .z) (u .w)) (sym (g .same)) (g .limits) }
 
 same-length-3 : tie.Need-same-length-3
 same-length-3 c = search needs
@@ -82,9 +82,8 @@ returns-3 : tie.Need-returns-3
 returns-3 c =
     let s = c .before .before .before .before .before .before .before .before .before .before .before in
     let j = c .before .before .before .before .before .before .before .before .judge .ensures in
-    let t = judged-sound j (c .before .before .before .before .before .enum-told .given .1) in
     let g = made-good (made (c .before .before .before .before)) (c .before .before .p .given .1) in
-    tell-walked j t (X s) (g .ok) (subst (λ u. Walked (now (s .args .planes)) (now (s .args .nodes)) (s .args .root) u (c .walk .result)) (g .same) (c .walk .ensures))
+    tell-walked j (c .before .before .before .before .before .enum-told .given .1) (X s) (g .ok) (subst (λ u. Walked (now (s .args .planes)) (now (s .args .nodes)) (s .args .root) u (c .walk .result)) (g .same) (c .walk .ensures))
 
 pub point-spec : {M : Type 1} → statement M
 point-spec =
