@@ -40,7 +40,9 @@ use Rattle.borders.specs.declared.Next.{Next}
 use Rattle.borders.specs.declared.Next.the-variants.{Walk, Done}
 use Rattle.borders.specs.Bounded.{PairIs}
 use Rattle.borders.specs.Sides.{Told, cell-at, Kept, fronts, taken, After, Differs, walked, plane-of, Passes, PassIn, PassTold, FollowIn, Follows, to-b, to-backs, at-end, FollowTold, Here, SideIn, NodeIn, Did}
-use Rattle.borders.proofs.Paths.{kept-fewer, kept-both, cell-same, Laid, laid-cell}
+use Rattle.cells.specs.Paths.{PathIn}
+use Rattle.cells.proofs.Paths.{links-same}
+use Rattle.borders.proofs.Paths.{kept-fewer, kept-both, cell-same, Laid, laid-cell, laid-links, keep-asked}
 use Rattle.borders.proofs.Turns.{leaf-told, front-told, both-told, Leads, leads, leads-falls, fronts-is, left, walk-falls}
 
 -- the tables of a section and the path are as long as they were
@@ -89,8 +91,11 @@ module _ {xs : List ℤ} {numbers a b : List ℕ} {t : Stage} {path : List ℤ} 
   pub node-deep : depth < 128
   node-deep = omega (arith, on-kept-few (h .side .own .member) (half-on true), h .side .ground .few)
 
-  pub node-room : depth * 8 + 8 ≤ length path
+  pub node-room : depth * 9 + 9 ≤ length path
   node-room = omega (arith, node-deep, h .side .ground .path-room)
+
+  pub node-asked : {path′ : List ℤ} → Kept path path′ depth → length path′ ≡ length path → PathIn path′ depth × (depth * 9 + 9 ≤ length path′)
+  node-asked f l = keep-asked f l node-deep (h .side .links) node-room
 
   pub plane-ranged : {p : struct.Plane} → plane p ≡ other → PlaneIn (p .a) (p .b) (p .c) (p .d)
   plane-ranged {p} e = subst (λ q. PlaneIn (q .x) (q .y) (q .z) (q .w)) (sym e) (in-range-in (is-true (in-range other) (h .side .ground .lawful other other-member .range)))
@@ -104,6 +109,7 @@ module _ {xs : List ℤ} {numbers a b : List ℕ} {t : Stage} {path : List ℤ} 
           own = h .side .own;
           here = at-tree (h .side .here) (side-of s node-row) (subst (λ c. StandsIn xs numbers a b (t .mark) c (side-of s node-row)) (sym e) (side-stands s node-row));
           on = subst (λ c. OnKept own (list xs) c (depth + 1)) (sym (laid-cell k)) (subst (OnKept own (list xs) (half s other ∷ cell-at path depth)) n (half-on s));
+          links = laid-links k (h .side .links);
           cuts = subst (Cuts own) (sym (laid-cell k)) (half-cuts s);
         }
 
@@ -149,7 +155,7 @@ module _ {xs : List ℤ} {numbers a b : List ℕ} {t : Stage} {path : List ℤ} 
     side-row = as-row low (h .here .stands)
 
     pub pass-in : PassIn xs numbers a b t path depth first second c
-    pass-in = record { ground = h .ground; own = h .own; plane = side-row .plane; row = side-row .row; on = h .on; cuts = h .cuts }
+    pass-in = record { ground = h .ground; own = h .own; plane = side-row .plane; row = side-row .row; on = h .on; links = h .links; cuts = h .cuts }
 
     module _ {path′ : List ℤ} {y : Passed} (d : PassTold xs numbers a b t path path′ depth c y) where
       same-cell : cell-at path depth ≡ cell-at path′ depth
@@ -163,7 +169,7 @@ module _ {xs : List ℤ} {numbers a b : List ℕ} {t : Stage} {path : List ℤ} 
         where
           by : {f g : ℕ} → Passes (plane-at xs (t .plane)) (plane-of xs numbers a b t c) (fronts (t .front)) (cell-at path depth) f g Both → NodeIn xs numbers a b t path′ depth u v c
           by (Passes.both n i j) = record {
-            side = record { ground = ground-in (h .ground) l eu ev; own = h .own; here = h .here; on = same-on; cuts = subst (Cuts (plane-at xs (t .plane))) same-cell (h .cuts) };
+            side = record { ground = ground-in (h .ground) l eu ev; own = h .own; here = h .here; on = same-on; links = links-same (d .kept .rows) (h .links); cuts = subst (Cuts (plane-at xs (t .plane))) same-cell (h .cuts) };
             row = low;
             other = n;
             front-cuts = subst (λ e. Cuts (plane-at xs (t .plane)) (plane-of xs numbers a b t c ∷ e)) same-cell i;
@@ -195,7 +201,7 @@ module _ {xs : List ℤ} {numbers a b : List ℕ} {t : Stage} {path : List ℤ} 
         code-in l eu ev =
             let i = h .here in
             let q = onto (i .operation) (i .tree-a) (i .tree-b) (i .front) (i .turn) (i .front-is) (i .stands) in
-            record { ground = ground-in (h .ground) l eu ev; own = h .own; here = at-tree i (q .tree) (q .stands); on = same-on; cuts = subst (Cuts (plane-at xs (t .plane))) same-cell (h .cuts) }
+            record { ground = ground-in (h .ground) l eu ev; own = h .own; here = at-tree i (q .tree) (q .stands); on = same-on; links = links-same (d .kept .rows) (h .links); cuts = subst (Cuts (plane-at xs (t .plane))) same-cell (h .cuts) }
 
         pub side-code : {path″ : List ℤ} {z : Found} → Did xs numbers a b t path′ path″ depth e z → Did xs numbers a b t path path″ depth c z
         side-code {path″} {z} k = record {
@@ -246,8 +252,8 @@ module _ {xs : List ℤ} {numbers a b : List ℕ} {t : Stage} {path : List ℤ} 
         walk-in = by walks
           where
             by : {f j : Option Mark} {x : Mark} {u : Stage} {root : ℕ} → Follows (h .here .operation) t f j x (Walk u root) → SideIn xs numbers a b u path depth first second root
-            by (to-b f x) = let i = h .here in record { ground = h .ground; own = h .own; here = record { operation = i .operation; tree-a = i .tree-a; tree-b = i .tree-b; pair-is = i .pair-is; front = f; front-is = refl; turn = some x; turn-is = refl; tree = i .tree-b; stands = b-stands x (i .pair-is .second-stands) }; on = h .on; cuts = h .cuts }
-            by (to-backs m x) = let i = h .here in record { ground = h .ground; own = h .own; here = record { operation = i .operation; tree-a = i .tree-a; tree-b = i .tree-b; pair-is = i .pair-is; front = some (operate (i .operation) m x); front-is = refl; turn = none; turn-is = refl; tree = i .tree-a; stands = i .pair-is .first-stands }; on = h .on; cuts = h .cuts }
+            by (to-b f x) = let i = h .here in record { ground = h .ground; own = h .own; here = record { operation = i .operation; tree-a = i .tree-a; tree-b = i .tree-b; pair-is = i .pair-is; front = f; front-is = refl; turn = some x; turn-is = refl; tree = i .tree-b; stands = b-stands x (i .pair-is .second-stands) }; on = h .on; links = h .links; cuts = h .cuts }
+            by (to-backs m x) = let i = h .here in record { ground = h .ground; own = h .own; here = record { operation = i .operation; tree-a = i .tree-a; tree-b = i .tree-b; pair-is = i .pair-is; front = some (operate (i .operation) m x); front-is = refl; turn = none; turn-is = refl; tree = i .tree-a; stands = i .pair-is .first-stands }; on = h .on; links = h .links; cuts = h .cuts }
 
         pub next-falls : left u + rank root < left t
         next-falls = walk-falls (h .here .front-is) (h .here .turn-is) (code-small (walk-in .here .stands)) walks

@@ -12,19 +12,16 @@ use lib.ListN.{length}
 use Rattle.whole.specs.Tests.{is-true}
 use Rattle.scope.specs.Planes.{Plane, in-range}
 use Rattle.scope.specs.Cells.{Cuts}
-use Rattle.scope.specs.Section.{section}
 use Rattle.theory.specs.Planes.Apart.{independent}
 use Rattle.theory.specs.Cells.Box.{cons}
 use Rattle.theory.specs.Cells.Move.{flip-front}
 use Rattle.theory.specs.Cells.Reached.{lawful-normal}
 use Rattle.theory.specs.Forms.OnPlane.{strict-back}
 use Rattle.sections.specs.declared.Witnessed.{Witnessed}
-use Rattle.sections.specs.Values.{witness-of}
-use Rattle.sections.specs.Tables.{rows-down}
-use Rattle.sections.specs.Promises.{CutIn}
+use Rattle.sections.specs.Paths.{CutIn, CutTold}
 use Rattle.borders.specs.declared.Parted.the-variants as parted
 use Rattle.borders.specs.Sides.{cell-at, Kept, PartsIn, behind, PartsTold}
-use Rattle.borders.proofs.Paths.{Laid, laid-cell, laid-ranged, CutSaid, cut-told}
+use Rattle.borders.proofs.Paths.{Laid, laid-cell, laid-ranged, laid-links, CutSaid, cut-told}
 
 module _ {p q : Plane} {path : List ℤ} {depth : ℕ} {first second : List ℤ} (h : PartsIn p q path depth first second) where
   -- the rows of the path and one half-space more
@@ -36,13 +33,14 @@ module _ {p q : Plane} {path : List ℤ} {depth : ℕ} {first second : List ℤ}
       few = omega (arith, h .deep);
       room = omega (arith, h .room, k .long);
       ranged = laid-ranged k r (h .ranged);
+      links = laid-links k (h .links);
       first-room = omega (arith, eu, h .first-room);
       second-room = omega (arith, ev, h .second-room);
     }
 
     -- the answer of `cut`, of the half of the cell in front of g
-    pub half-said : {r : Witnessed} → r ≡ witness-of p (section p (rows-down path′ 8 (depth + 1))) → CutSaid p (g ∷ cell-at path depth) r
-    half-said {r} e = subst (λ c. CutSaid p c r) (laid-cell k) (cut-told path′ (depth + 1) (h .lawful) e)
+    pub half-said : {r : Witnessed} → CutTold p (cell-at path′ (depth + 1)) r → CutSaid p (g ∷ cell-at path depth) r
+    half-said {r} e = subst (λ c. CutSaid p c r) (laid-cell k) (cut-told e)
 
   -- the plane has a point in the cell, so where it has none in front of q it has one behind
   pub told-behind : {path′ : List ℤ} → Kept path path′ depth → ¬ Cuts p (q ∷ cell-at path depth) → PartsTold p q path path′ depth parted.Behind

@@ -70,6 +70,7 @@ module _ {xs : List ℤ} {numbers a b : List ℕ} {t : Stage} {path : List ℤ} 
             deep = omega (arith, k, h .ground .few);
             room = omega (arith, k, h .ground .few, h .ground .path-room);
             ranged = rows-ranged path (h .ground .lawful) depth (h .on);
+            links = h .links;
             cuts = subst (λ p. Cuts p (cell-at path depth)) (sym ep) (h .cuts);
             first-room = h .ground .first-room;
             second-room = h .ground .second-room;

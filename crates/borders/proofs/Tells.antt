@@ -15,7 +15,6 @@ use Rattle.whole.specs.Tests.{is-true}
 use Rattle.scope.specs.Planes.{Plane, in-range, Lawful}
 use Rattle.scope.specs.Solids.{Tree, planes}
 use Rattle.scope.specs.Cells.{box, Cuts, operate}
-use Rattle.scope.specs.Section.{section}
 use Rattle.theory.specs.Planes.Apart.{lawful-general}
 use Rattle.theory.specs.Planes.General.{General}
 use Rattle.theory.specs.Cells.Path.{OnKept, on-none}
@@ -27,9 +26,8 @@ use Rattle.planes.specs.declared.Plane as struct
 use Rattle.planes.specs.declared.Meeting.{Meeting}
 use Rattle.sections.specs.declared.Witnessed.{Witnessed}
 use Rattle.sections.specs.declared.Witnessed.the-variants.{At, Nothing}
-use Rattle.sections.specs.Values.{witness-of}
 use Rattle.sections.specs.Tables.{rows-down}
-use Rattle.sections.specs.Promises.{CutIn}
+use Rattle.sections.specs.Paths.{CutIn, CutTold}
 use Rattle.tables.specs.Rows.{plane-at}
 use Rattle.walks.specs.Standing.{list, Stands}
 use Rattle.borders.specs.declared.Pair.{Pair}
@@ -69,13 +67,14 @@ module _ {xs : List ℤ} {numbers a b : List ℕ} {pair : Pair} {path first seco
       few = omega arith;
       room = omega arith;
       ranged = λ i l. absurd (omega (arith, l));
+      links = λ i l. absurd (omega (arith, l));
       first-room = h .ground .first-room;
       second-room = h .ground .second-room;
     }
 
-    module _ {r : Witnessed} (w : r ≡ witness-of (plane p) (section (plane p) (rows-down path 8 0))) where
+    module _ {r : Witnessed} (w : CutTold (plane p) (cell-at path 0) r) where
       said : CutSaid own box r
-      said = subst (λ c. CutSaid own c r) (box-at path) (subst (λ q. CutSaid q (cell-at path 0) r) e (cut-told path 0 (subst Lawful (sym e) own-lawful) w))
+      said = subst (λ c. CutSaid own c r) (box-at path) (subst (λ q. CutSaid q (cell-at path 0) r) e (cut-told w))
 
       -- it misses the box
       pub told-missed : r ≡ Nothing → BoundaryTold xs numbers a b pair i found.Same
@@ -88,6 +87,7 @@ module _ {xs : List ℤ} {numbers a b : List ℕ} {pair : Pair} {path first seco
           own = h .own;
           here = record { operation = h .operation; tree-a = h .tree-a; tree-b = h .tree-b; pair-is = h .pair-is; front = none; front-is = refl; turn = none; turn-is = refl; tree = h .tree-a; stands = h .pair-is .first-stands };
           on = subst (λ c. OnKept own (list xs) c 0) (sym (box-at path)) on-none;
+          links = λ i l. absurd (omega (arith, l));
           cuts = subst (Cuts own) (sym (box-at path)) (said .found f);
         }
 

@@ -3,7 +3,7 @@
 --     cell-at, OnPlane              the cell of the first rows of a path; they are the half-spaces that a walk on p kept
 --     fronts, own-field, taken      which side is taken at rows of p itself
 --     After, Differs                what is left to be done at a leaf, and below a tree: the marks of the two sides differ at some end
---     Kept                          the rows of a path that a call leaves as they are
+--     Kept, nowhere                 the rows of a path that a call leaves as they are; the point of a row whose witness is not read
 --     Own                           p by its number
 --     Parts, PartsIn, PartsTold     on which sides of another plane p has points
 --     walked, plane-of              the rows of the operand that is walked, and the plane of one
@@ -25,7 +25,9 @@ use Rattle.scope.specs.Cells.{box, Cuts, Operation, operate}
 use Rattle.scope.specs.Text.{operation-code}
 use Rattle.theory.specs.Cells.Path.{OnKept}
 use Rattle.theory.specs.Forms.OnPlane.{Along}
+use Rattle.planes.specs.declared.Meeting.{Meeting}
 use Rattle.sections.specs.Tables.{row, rows-down}
+use Rattle.sections.specs.Paths.{Links}
 use Rattle.tables.specs.Rows.{plane-at}
 use Rattle.walks.specs.Standing.{rows-of, offset, list, plane-number, RowIs}
 use Rattle.walks.specs.Marks.{turn-code}
@@ -49,7 +51,7 @@ pub data Told (X : Type 0) : Found → Type 0 where
 
 -- the cell of the first rows of a path
 abbrev pub cell-at : List ℤ → ℕ → List Plane
-cell-at path depth = rows-down path 8 depth ++ box
+cell-at path depth = rows-down path 9 depth ++ box
 
 -- each row is a side of another plane of the joined list, on both sides of which p has points of the cell of the rows before it
 abbrev pub OnPlane : List ℤ → Plane → List ℤ → ℕ → Type 0
@@ -57,7 +59,11 @@ OnPlane xs p path depth = OnKept p (list xs) (cell-at path depth) depth
 
 -- the rows before row `depth` are as they were
 pub record Kept (path path′ : List ℤ) (depth : ℕ) : Type 0 where
-  pub rows : (i : ℕ) → i < depth * 8 → getD path′ i (pos 0) ≡ getD path i (pos 0)
+  pub rows : (i : ℕ) → i < depth * 9 → getD path′ i (pos 0) ≡ getD path i (pos 0)
+
+-- the point of a row whose witness is not read
+abbrev pub nowhere : Meeting
+nowhere = record { x = pos 0; y = pos 0; z = pos 0; w = pos 1 }
 
 -- number n of the joined list
 pub record Own (xs : List ℤ) (n : ℕ) : Type 0 where
@@ -104,8 +110,9 @@ pub record PartsIn (p q : Plane) (path : List ℤ) (depth : ℕ) (first second :
   pub other-lawful : Lawful q
   pub other : q ≢ p
   pub deep : depth < 128
-  pub room : depth * 8 + 8 ≤ length path
-  pub ranged : (i : ℕ) → i < depth → in-range (row path 8 i) ≡ true
+  pub room : depth * 9 + 9 ≤ length path
+  pub ranged : (i : ℕ) → i < depth → in-range (row path 9 i) ≡ true
+  pub links : Links path depth
   pub cuts : Cuts p (cell-at path depth)
   pub first-room : 675 ≤ length first
   pub second-room : 675 ≤ length second
@@ -135,6 +142,7 @@ pub record PassIn (xs : List ℤ) (numbers a b : List ℕ) (t : Stage) (path : L
   pub plane : Plane
   pub row : RowIs xs numbers (walked a b t) (offset (t .mark)) r plane
   pub on : OnPlane xs (plane-at xs (t .plane)) path depth
+  pub links : Links path depth
   pub cuts : Cuts (plane-at xs (t .plane)) (cell-at path depth)
 
 pub record PassTold (xs : List ℤ) (numbers a b : List ℕ) (t : Stage) (path path′ : List ℤ) (depth r : ℕ) (z : Passed) : Type 0 where
@@ -185,6 +193,7 @@ pub record SideIn (xs : List ℤ) (numbers a b : List ℕ) (t : Stage) (path : L
   pub own : Own xs (t .plane)
   pub here : Here xs numbers a b t c
   pub on : OnPlane xs (plane-at xs (t .plane)) path depth
+  pub links : Links path depth
   pub cuts : Cuts (plane-at xs (t .plane)) (cell-at path depth)
 
 -- the row parts the plane

@@ -20,15 +20,13 @@ use walks::field;
 use walks::number_of;
 use walks::operated;
 ghost use mathlib.Core.Path.{_≡_};
-ghost use mathlib.Core.List.{[], _∷_};
 ghost use mathlib.Core.Logic.{_≢_};
 ghost use Prim.Native.Nat.{_+_, _*_, _≤_};
-ghost use lib.IntN.{pos};
 ghost use lib.ListN.{length, getD};
-ghost use lib.Seq.{sets};
 ghost use Rattle.planes.specs.Values.{plane};
+ghost use Rattle.cells.specs.Paths.{PathIn, Pushed};
 ghost use Rattle.walks.specs.Standing.{FieldIn};
-ghost use Rattle.borders.specs.Sides.{Told, walked, own-field, PartsIn, PartsTold, PassIn, PassTold, FollowIn, FollowTold, SideIn, NodeIn, Did};
+ghost use Rattle.borders.specs.Sides.{Told, nowhere, walked, own-field, PartsIn, PartsTold, PassIn, PassTold, FollowIn, FollowTold, SideIn, NodeIn, Did};
 
 // While fronts are taken, no mark in front of the plane is known.
 pub const FRONTS: u16 = 0;
@@ -37,8 +35,8 @@ pub const FRONTS: u16 = 0;
 
 // Writes row `depth` of a path: a half-space, and no witness.
 fn keep(path: &mut [i64], depth: usize, h: Plane)
-    requires { ⌜ depth * 8 + 8 ≤ length (now path) ⌝ }
-    ensures { λ _. ⌜ now (path .exit) ≡ sets (now (path .entry)) (depth * 8) (h .a ∷ h .b ∷ h .c ∷ h .d ∷ pos 0 ∷ pos 0 ∷ pos 0 ∷ pos 1 ∷ []) ⌝ }
+    requires { ⌜ PathIn (now path) depth × (depth * 9 + 9 ≤ length (now path)) ⌝ }
+    ensures { λ _. ⌜ Pushed (now (path .entry)) (now (path .exit)) depth h nowhere ⌝ }
 {
     push(
         path,

@@ -1,5 +1,5 @@
 -- The code's side of a missed plane: its tests and sums, on numbers read back from their bits, say what the definitions do.
---     stored-eight, witness-kept   a row of a path, stored number by number, and its witness read
+--     stored-nine, witness-kept   a row of a path, stored number by number, and its witness read
 --     turned-fits, opposite-is   the half-space on the other side
 --     own-yes, own-no            the row's own plane
 --     sum-asked, side-said       the sum at a witness, and its sign
@@ -41,9 +41,10 @@ use Rattle.cells.specs.declared.Classified.the-variants.{Front, Behind}
 
 -- ---- a row stored
 
-pub stored-eight : (t : List ℤ) (i : ℕ) {a b c d x y z w : ℤ} → SFits w64 a → SFits w64 b → SFits w64 c → SFits w64 d → SFits w64 x → SFits w64 y → SFits w64 z → SFits w64 w
-    → set (set (set (set (set (set (set (set t i (k a)) (i + 1) (k b)) (i + 2) (k c)) (i + 3) (k d)) (i + 4) (k x)) (i + 5) (k y)) (i + 6) (k z)) (i + 7) (k w) ≡ sets t i (a ∷ b ∷ c ∷ d ∷ x ∷ y ∷ z ∷ w ∷ [])
-stored-eight t i f g h l m n o p =
+pub stored-nine : (t : List ℤ) (i : ℕ) {a b c d x y z w u : ℤ} → SFits w64 a → SFits w64 b → SFits w64 c → SFits w64 d → SFits w64 x → SFits w64 y → SFits w64 z → SFits w64 w → SFits w64 u
+    → set (set (set (set (set (set (set (set (set t i (k a)) (i + 1) (k b)) (i + 2) (k c)) (i + 3) (k d)) (i + 4) (k x)) (i + 5) (k y)) (i + 6) (k z)) (i + 7) (k w)) (i + 8) (k u)
+    ≡ sets t i (a ∷ b ∷ c ∷ d ∷ x ∷ y ∷ z ∷ w ∷ u ∷ [])
+stored-nine t i f g h l m n o p q =
     let a = toZ-ofZ f in
     let b = toZ-ofZ g in
     let c = toZ-ofZ h in
@@ -52,6 +53,7 @@ stored-eight t i f g h l m n o p =
     let y = toZ-ofZ n in
     let z = toZ-ofZ o in
     let w = toZ-ofZ p in
+    let u = toZ-ofZ q in
     let e1 : i + 1 ≡ suc i = omega arith in
     let e2 : i + 2 ≡ suc (suc i) = omega arith in
     let e3 : i + 3 ≡ suc (suc (suc i)) = omega arith in
@@ -59,21 +61,22 @@ stored-eight t i f g h l m n o p =
     let e5 : i + 5 ≡ suc (suc (suc (suc (suc i)))) = omega arith in
     let e6 : i + 6 ≡ suc (suc (suc (suc (suc (suc i))))) = omega arith in
     let e7 : i + 7 ≡ suc (suc (suc (suc (suc (suc (suc i)))))) = omega arith in
-    λ j. set (set (set (set (set (set (set (set t i (a j)) (e1 j) (b j)) (e2 j) (c j)) (e3 j) (d j)) (e4 j) (x j)) (e5 j) (y j)) (e6 j) (z j)) (e7 j) (w j)
+    let e8 : i + 8 ≡ suc (suc (suc (suc (suc (suc (suc (suc i))))))) = omega arith in
+    λ j. set (set (set (set (set (set (set (set (set t i (a j)) (e1 j) (b j)) (e2 j) (c j)) (e3 j) (d j)) (e4 j) (x j)) (e5 j) (y j)) (e6 j) (z j)) (e7 j) (w j)) (e8 j) (u j)
 
 -- the witness of a row, read
-pub witness-kept : (t : List ℤ) (i : ℕ) → SFits w64 (getD t (i * 8 + 4) (pos 0)) → SFits w64 (getD t (i * 8 + 5) (pos 0)) → SFits w64 (getD t (i * 8 + 6) (pos 0)) → SFits w64 (getD t (i * 8 + 7) (pos 0))
-    → quad (k (getD t (i * 8 + 4) (pos 0))) (k (getD t (i * 8 + 5) (pos 0))) (k (getD t (i * 8 + 6) (pos 0))) (k (getD t (i * 8 + 7) (pos 0))) ≡ witness-at t i
+pub witness-kept : (t : List ℤ) (i : ℕ) → SFits w64 (getD t (i * 9 + 4) (pos 0)) → SFits w64 (getD t (i * 9 + 5) (pos 0)) → SFits w64 (getD t (i * 9 + 6) (pos 0)) → SFits w64 (getD t (i * 9 + 7) (pos 0))
+    → quad (k (getD t (i * 9 + 4) (pos 0))) (k (getD t (i * 9 + 5) (pos 0))) (k (getD t (i * 9 + 6) (pos 0))) (k (getD t (i * 9 + 7) (pos 0))) ≡ witness-at t i
 unfolding witness-at
 witness-kept t i f g h l =
     let x = toZ-ofZ f in
     let y = toZ-ofZ g in
     let z = toZ-ofZ h in
     let w = toZ-ofZ l in
-    let e5 : i * 8 + 5 ≡ i * 8 + 4 + 1 = omega arith in
-    let e6 : i * 8 + 6 ≡ i * 8 + 4 + 2 = omega arith in
-    let e7 : i * 8 + 7 ≡ i * 8 + 4 + 3 = omega arith in
-    (λ j. quad (x j) (y j) (z j) (w j)) ∙ (λ j. quad (getD t (i * 8 + 4) (pos 0)) (getD t (e5 j) (pos 0)) (getD t (e6 j) (pos 0)) (getD t (e7 j) (pos 0)))
+    let e5 : i * 9 + 5 ≡ i * 9 + 4 + 1 = omega arith in
+    let e6 : i * 9 + 6 ≡ i * 9 + 4 + 2 = omega arith in
+    let e7 : i * 9 + 7 ≡ i * 9 + 4 + 3 = omega arith in
+    (λ j. quad (x j) (y j) (z j) (w j)) ∙ (λ j. quad (getD t (i * 9 + 4) (pos 0)) (getD t (e5 j) (pos 0)) (getD t (e6 j) (pos 0)) (getD t (e7 j) (pos 0)))
 
 -- ---- the other side
 
@@ -153,7 +156,7 @@ pub last-asked : (p : Plane) (path : List ℤ) (d : ℕ) → (d ≡ 0 → ⊥) �
 last-asked p path zero n h = absurd (n refl)
 last-asked p path (suc d) n h = let e : suc d - 1 ≡ d = omega arith in rw e h
 
-pub missed-last : (p : Plane) (path : List ℤ) (d : ℕ) → (d ≡ 0 → ⊥) → side-by p (row path 8 (d - 1)) (witness-at path (d - 1)) ≡ missed-by p path d
+pub missed-last : (p : Plane) (path : List ℤ) (d : ℕ) → (d ≡ 0 → ⊥) → side-by p (row path 9 (d - 1)) (witness-at path (d - 1)) ≡ missed-by p path d
 unfolding missed-by
 missed-last p path zero n = absurd (n refl)
 missed-last p path (suc d) n = let e : suc d - 1 ≡ d = omega arith in rw e

@@ -1,11 +1,13 @@
 // Cells, as document 01's "Cells and the merge" has them: the path to a cell, and how a plane lies to it.
-// A path is a stack of kept half-spaces, eight numbers a row: the half-space a, b, c, d, and the witness x, y, z, w of its cut, a point
-// that lies on its plane and in the cell of the rows before it.
+// A path is a stack of kept half-spaces, nine numbers a row: the half-space a, b, c, d, the witness x, y, z, w of its cut, a point that lies
+// on its plane and in the cell of the rows before it, and the row's link. Rows that hold the rows after them need not be asked: the link is
+// the place where the row ends that is asked next.
 use planes::Meeting;
 use planes::Plane;
 use planes::Side;
 use sections::Witnessed;
 ghost use mathlib.Core.Path.{_≡_};
+ghost use mathlib.Core.Bool.{true, false};
 ghost use mathlib.Core.List.{[], _∷_};
 ghost use Prim.Native.Nat.{_+_, _*_, _≤_};
 ghost use lib.ListN.{length};
@@ -13,8 +15,9 @@ ghost use lib.Seq.{sets};
 ghost use Rattle.scope.specs.Planes.{flip};
 ghost use Rattle.planes.specs.Values.{plane, meeting};
 ghost use Rattle.planes.specs.Bounds.{PlaneIn};
-ghost use Rattle.sections.specs.Tables.{row};
-ghost use Rattle.cells.specs.Paths.{witness-at, own-side, side-by, missed-by, BelowIn, MissedIn, ClassifyIn, Classified-in};
+ghost use Rattle.sections.specs.Tables.{four-at, row};
+ghost use Rattle.sections.specs.Paths.{Holds};
+ghost use Rattle.cells.specs.Paths.{witness-at, PathIn, LinkTold, Pushed, own-side, side-by, missed-by, BelowIn, MissedIn, BesideIn, BesideTold, ClassifyIn, Classified-in};
 
 // ---- the answers
 
@@ -25,14 +28,20 @@ pub enum Classified {
     Behind,
 }
 
+// The side of a plane on which a half-space of a path keeps the cell.
+pub enum Beside {
+    Front,
+    Behind,
+    Neither,
+}
+
 // ---- the rows of a path
 
-// The half-space of row i.
-fn half(path: &[i64], i: usize) -> Plane
-    requires { ⌜ i * 8 + 8 ≤ length (now path) ⌝ }
-    ensures { λ r. ⌜ plane r ≡ row (now (path .entry)) 8 i ⌝ }
+// The half-space that stands at a place.
+fn half(path: &[i64], at: usize) -> Plane
+    requires { ⌜ at + 4 ≤ length (now path) ⌝ }
+    ensures { λ r. ⌜ plane r ≡ four-at (now (path .entry)) at ⌝ }
 {
-    let at = i * 8;
     let a = path[at];
     let b = path[at + 1];
     let c = path[at + 2];
@@ -42,15 +51,31 @@ fn half(path: &[i64], i: usize) -> Plane
 
 // The witness of row i.
 fn witness(path: &[i64], i: usize) -> Meeting
-    requires { ⌜ i * 8 + 8 ≤ length (now path) ⌝ }
+    requires { ⌜ i * 9 + 9 ≤ length (now path) ⌝ }
     ensures { λ r. ⌜ meeting r ≡ witness-at (now (path .entry)) i ⌝ }
 {
-    let at = i * 8;
+    let at = i * 9;
     let x = path[at + 4];
     let y = path[at + 5];
     let z = path[at + 6];
     let w = path[at + 7];
     Meeting { x, y, z, w }
+}
+
+// Whether a half-space q holds p: it has the same normal, and no smaller d.
+fn holds(q: Plane, p: Plane) -> bool
+    ensures { λ r. ⌜ (r ≡ true → Holds (plane q) (plane p)) × (r ≡ false → Holds (plane q) (plane p) → ⊥) ⌝ }
+{
+    if q.a != p.a {
+        return false;
+    }
+    if q.b != p.b {
+        return false;
+    }
+    if q.c != p.c {
+        return false;
+    }
+    p.d <= q.d
 }
 
 // The half-space on the other side of a plane.
@@ -66,12 +91,24 @@ pub fn opposite(p: Plane) -> Plane
     }
 }
 
-// Writes row `depth`: a half-space, and the witness of its cut.
-pub fn push(path: &mut [i64], depth: usize, h: Plane, m: Meeting)
-    requires { ⌜ depth * 8 + 8 ≤ length (now path) ⌝ }
-    ensures { λ _. ⌜ now (path .exit) ≡ sets (now (path .entry)) (depth * 8) (h .a ∷ h .b ∷ h .c ∷ h .d ∷ m .x ∷ m .y ∷ m .z ∷ m .w ∷ []) ⌝ }
+// The link of row `depth`, if it is to hold h: past the row before it if that one holds h, and then past those that its own link passes over.
+fn link(path: &[i64], depth: usize, h: Plane) -> i64
+    requires { ⌜ PathIn (now path) depth ⌝ }
+    ensures { λ r. ⌜ LinkTold (now (path .entry)) depth (plane h) r ⌝ }
 {
-    let at = depth * 8;
+    let end = depth * 9;
+    if 0 < depth && holds(half(path, end - 9), h) {
+        return path[end - 1];
+    }
+    end as i64
+}
+
+// Writes row `depth`: a half-space, the witness of its cut, and its link.
+fn put_row(path: &mut [i64], depth: usize, h: Plane, m: Meeting, link: i64)
+    requires { ⌜ depth * 9 + 9 ≤ length (now path) ⌝ }
+    ensures { λ _. ⌜ now (path .exit) ≡ sets (now (path .entry)) (depth * 9) (h .a ∷ h .b ∷ h .c ∷ h .d ∷ m .x ∷ m .y ∷ m .z ∷ m .w ∷ link ∷ []) ⌝ }
+{
+    let at = depth * 9;
     let a = h.a;
     let b = h.b;
     let c = h.c;
@@ -88,6 +125,16 @@ pub fn push(path: &mut [i64], depth: usize, h: Plane, m: Meeting)
     path[at + 5] = y;
     path[at + 6] = z;
     path[at + 7] = w;
+    path[at + 8] = link;
+}
+
+// A half-space more: row `depth`.
+pub fn push(path: &mut [i64], depth: usize, h: Plane, m: Meeting)
+    requires { ⌜ PathIn (now path) depth × (depth * 9 + 9 ≤ length (now path)) ⌝ }
+    ensures { λ _. ⌜ Pushed (now (path .entry)) (now (path .exit)) depth h m ⌝ }
+{
+    let l = link(path, depth, h);
+    put_row(path, depth, h, m, l);
 }
 
 // ---- a plane and a cell
@@ -106,12 +153,12 @@ fn own(p: Plane, h: Plane) -> Classified
 // plane is the only one through the witness that misses the cell.
 fn side_below(p: Plane, path: &[i64], i: usize) -> Classified
     requires { ⌜ BelowIn (plane p) (now path) i ⌝ }
-    ensures { λ r. ⌜ r ≡ side-by (plane p) (row (now (path .entry)) 8 i) (witness-at (now (path .entry)) i) ⌝ }
+    ensures { λ r. ⌜ r ≡ side-by (plane p) (row (now (path .entry)) 9 i) (witness-at (now (path .entry)) i) ⌝ }
 {
     let m = witness(path, i);
     match planes::sign(planes::value(p.a, p.b, p.c, p.d, m.x, m.y, m.z, m.w)) {
         Side::Front => Classified::Front,
-        Side::On => own(p, half(path, i)),
+        Side::On => own(p, half(path, i * 9)),
         Side::Back => Classified::Behind,
     }
 }
@@ -137,7 +184,29 @@ fn missed(p: Plane, path: &[i64], depth: usize) -> Classified
     side_below(p, path, depth - 1)
 }
 
-// How a lawful plane lies to the cell of the first `depth` rows of a path.
+// The side of p on which a half-space of the path keeps the cell: p holds it, or the other side of p does. Rows are asked last first, along
+// their links.
+fn parallel(p: Plane, path: &[i64], depth: usize) -> Beside
+    requires { ⌜ BesideIn (plane p) (now path) depth ⌝ }
+    ensures { λ r. ⌜ BesideTold (plane p) (now (path .entry)) depth r ⌝ }
+{
+    let b = opposite(p);
+    let mut end = depth * 9;
+    while 0 < end {
+        let h = half(path, end - 9);
+        if holds(p, h) {
+            return Beside::Front;
+        }
+        if holds(b, h) {
+            return Beside::Behind;
+        }
+        let link = path[end - 1];
+        end = link as usize;
+    }
+    Beside::Neither
+}
+
+// How a lawful plane lies to the cell of the first `depth` rows of a path. Where a parallel half-space tells, no section is made.
 pub fn classify(
     p: Plane,
     path: &[i64],
@@ -148,8 +217,12 @@ pub fn classify(
     requires { ⌜ ClassifyIn (plane p) (now path) depth (now first) (now second) ⌝ }
     ensures { λ r. ⌜ Classified-in (plane p) (now (path .entry)) depth r ⌝ }
 {
-    match sections::cut(p, path, depth, first, second) {
-        Witnessed::At(m) => Classified::Cut(m),
-        Witnessed::Nothing => missed(p, path, depth),
+    match parallel(p, path, depth) {
+        Beside::Front => Classified::Front,
+        Beside::Behind => Classified::Behind,
+        Beside::Neither => match sections::cut(p, path, depth, first, second) {
+            Witnessed::At(m) => Classified::Cut(m),
+            Witnessed::Nothing => missed(p, path, depth),
+        },
     }
 }

@@ -10,10 +10,9 @@ use borrow.Author.Tests.{lt-leb}
 use lib.IntN.{ℤ}
 use lib.ListN.{length, take}
 use Rattle.scope.specs.Limits.{stated}
-use Rattle.scope.specs.Solids.{OUT, leaf, rows, planes, code, number, post, entries, ascending, tables-of}
+use Rattle.scope.specs.Solids.{OUT, leaf, planes, code, post, ascending, tables-of}
 use Rattle.scope.specs.Cells.{union}
 use Rattle.scope.specs.Judging.{judge-lent}
-use Rattle.scope.specs.Text.{operation-code}
 use Rattle.scope.specs.Answers.{flat-planes, flat-nodes, refused, tree-answer, short-work, enough-work, solid-refused, formed}
 use Rattle.theory.specs.Theorems.{empty-lawful, form, form-single}
 use Rattle.theory.specs.Text.Lent.{lent}
@@ -63,5 +62,5 @@ module _ {work : ℕ} {pa : List ℤ} {na : List ℕ} {ra : ℕ} {xs xs′ : Lis
         let n = form (q .held .lawful) in
         record { answer = tree-answer (rooms xs ns) (n .0); exact = enough-work (enough work e) (formed (q .tree) (n .0) (q .accepts) (n .1)); outcome = f (q .tree) (n .0) (q .held) (n .1) }
 
-pub judged-in : {pa : List ℤ} {na : List ℕ} {ra : ℕ} {xs : List ℤ} {ns : List ℕ} {path : List ℤ} {i : Judgement.Judgement} {s : Solid} → i ≡ judgement pa na ra (judge-lent (lent pa na ra)) → i ≡ Judgement.the-variants.Sound s → ZerosIn xs ns → 1024 ≤ length path → SingleIn pa na ra xs ns path
+pub judged-in : {pa : List ℤ} {na : List ℕ} {ra : ℕ} {xs : List ℤ} {ns : List ℕ} {path : List ℤ} {i : Judgement.Judgement} {s : Solid} → i ≡ judgement pa na ra (judge-lent (lent pa na ra)) → i ≡ Judgement.the-variants.Sound s → ZerosIn xs ns → 1152 ≤ length path → SingleIn pa na ra xs ns path
 judged-in {pa} {na} {ra} a d z r = let q = rows-sound pa na ra a d in record { tree = q .tree; solid = q .held; zeros = z; path-room = r }

@@ -30,7 +30,7 @@ pub record SingleIn (ap : List ℤ) (an : List ℕ) (ar : ℕ) (xs : List ℤ) (
   pub tree : Tree
   pub solid : SolidOf ap an ar tree
   pub zeros : ZerosIn xs ns
-  pub path-room : 1024 ≤ length path
+  pub path-room : 1152 ≤ length path
 
 abbrev pub SingleTold : List ℤ → List ℕ → ℕ → List ℤ → List ℤ → List ℕ → List ℕ → Given → Type 0
 SingleTold ap an ar xs xs′ ns ns′ r = (A s : Tree) → SolidOf ap an ar A → NormalForm A s → Outcome (tree-answer (rooms xs ns) s) xs′ ns′ r

@@ -81,7 +81,7 @@ module _ {work op : ℕ} {pa : List ℤ} {na : List ℕ} {ra : ℕ} {pb : List �
           outcome = f (o .0) (sa .tree) (sb .tree) (m .0) (sym (o .1)) (sa .held) (sb .held) (m .1);
         }
 
-pub sound-in : {op : ℕ} {pa : List ℤ} {na : List ℕ} {ra : ℕ} {pb : List ℤ} {nb : List ℕ} {rb : ℕ} {xs : List ℤ} {ns : List ℕ} {path : List ℤ} {t : Bool} {i j : Judgement.Judgement} {s u : Solid} → t ≡ known op → not t ≡ false → i ≡ judgement pa na ra (judge-lent (lent pa na ra)) → i ≡ Judgement.the-variants.Sound s → j ≡ judgement pb nb rb (judge-lent (lent pb nb rb)) → j ≡ Judgement.the-variants.Sound u → ZerosIn xs ns → 1024 ≤ length path → SoundIn op pa na ra pb nb rb xs ns path
+pub sound-in : {op : ℕ} {pa : List ℤ} {na : List ℕ} {ra : ℕ} {pb : List ℤ} {nb : List ℕ} {rb : ℕ} {xs : List ℤ} {ns : List ℕ} {path : List ℤ} {t : Bool} {i j : Judgement.Judgement} {s u : Solid} → t ≡ known op → not t ≡ false → i ≡ judgement pa na ra (judge-lent (lent pa na ra)) → i ≡ Judgement.the-variants.Sound s → j ≡ judgement pb nb rb (judge-lent (lent pb nb rb)) → j ≡ Judgement.the-variants.Sound u → ZerosIn xs ns → 1152 ≤ length path → SoundIn op pa na ra pb nb rb xs ns path
 sound-in {op} {pa} {na} {ra} {pb} {nb} {rb} eo to a ea b eb z r =
     let o = operation-of op (is-known op eo to) in
     let sa = rows-sound pa na ra a ea in

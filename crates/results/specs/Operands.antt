@@ -20,7 +20,7 @@ pub record SoundIn (op : ℕ) (ap : List ℤ) (an : List ℕ) (ar : ℕ) (bp : L
   pub second : Tree
   pub second-solid : SolidOf bp bn br second
   pub zeros : ZerosIn xs ns
-  pub path-room : 1024 ≤ length path
+  pub path-room : 1152 ≤ length path
 
 -- room for the joined list, for the numbers of both operands' planes, and for sections
 pub record LentIn (joined : List ℤ) (numbers : List ℕ) (first second : List ℤ) : Type 0 where

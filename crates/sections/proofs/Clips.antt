@@ -4,7 +4,6 @@
 --     clipped-polygon   after a clip the table holds the polygon of one clip more
 use mathlib.Core.Path.{_≡_, refl, sym, ap, subst, _∙_}
 use mathlib.Core.Bool.{true}
-use mathlib.Core.Logic.{_≢_}
 use mathlib.Core.List.{List, [], _∷_, _++_, map}
 use Prim.Native.Nat.{ℕ, zero, suc, _+_, _-_, _*_, _≤_, _<_}
 use native.Mathlib.Omega.{arith}
@@ -22,9 +21,9 @@ use Rattle.theory.specs.Section.Index.{prior, next, prior-less, next-less, side
 use Rattle.planes.specs.Values.{plane}
 use Rattle.planes.specs.Bounds.{MeetingIn, in-range-in}
 use Rattle.planes.specs.declared.Plane as struct
-use Rattle.sections.specs.Values.{code, sign-of}
+use Rattle.sections.specs.Values.{sign-of}
 use Rattle.sections.specs.Tables.{look, corner-at, read, indices, said-at, last-to, put-all}
-use Rattle.sections.specs.Asked.{Found, Region, Polygon, side-of, SideIn, SidesIn, Looked, Sides, EmitIn, Emitted, ClipIn, clip-of, ClippedOn}
+use Rattle.sections.specs.Asked.{Found, Region, Polygon, side-of, SideIn, SidesIn, Looked, EmitIn, Emitted, ClipIn, clip-of, ClippedOn}
 use Rattle.sections.proofs.Rules.{sign-back, code-small}
 use Rattle.sections.proofs.Cells.{read-length, read-same, read-none}
 
@@ -74,7 +73,7 @@ each-clip {Q} side h bs q e = subst (λ l. Each Q l) (clipTo-all side h 0 bs) (g
     go zero l = none
     go (suc i) l = each-app (go i (omega arith)) (one (table-at side bs i) (each-at 0 e i (omega arith)))
 
-true-T : {b : _} → b ≡ true → T b
+pub true-T : {b : _} → b ≡ true → T b
 true-T e = rw e tt
 
 sized-in : {X : Plane} → Sized X 600000000000000 6000000000 → MeetingIn X
@@ -84,7 +83,7 @@ sized-in h = record { x-in = h .x-size; y-in = h .y-size; z-in = h .z-size; w-in
 
 module _ (s : Plane) (hs : List ℤ) (width top : ℕ) (gs : List Plane) (r : Region s hs width top) (t : List ℤ) (n : ℕ) (p : Polygon s (look hs width) top gs t n) where
   -- its indices
-  polygon-below : Each (λ i. i < top) (indices t n)
+  pub polygon-below : Each (λ i. i < top) (indices t n)
   polygon-below = at-each (indices t n) 0 (λ i l. let m : i < n = omega (arith, indices-length t n) in rw (indices-at t n i m) (p .below i m))
 
   pub polygon-corner : (i : ℕ) → i < n → getD (corners s (look hs width) (indices t n)) i (corner 0 s) ≡ corner-at t i

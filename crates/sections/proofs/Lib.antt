@@ -8,3 +8,5 @@ pub mod Clips
 pub mod Rows
 pub mod Sections
 pub mod Told
+pub mod Asking
+pub mod Cuts

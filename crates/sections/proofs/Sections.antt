@@ -6,22 +6,22 @@ use mathlib.Core.Path.{_≡_, refl, sym, ap, _∙_}
 use mathlib.Core.Bool.{true}
 use mathlib.Core.Logic.{_≢_}
 use mathlib.Core.List.{List, [], _∷_, _++_, map, append-assoc, append-nil}
-use Prim.Native.Nat.{ℕ, zero, suc, _+_, _-_, _*_, _≤_, _<_}
+use Prim.Native.Nat.{ℕ, zero, suc, _+_, _-_, _≤_, _<_}
 use native.Mathlib.Numerals.{add-one}
 use native.Mathlib.Omega.{arith}
-use lib.IntN.{ℤ, pos}
+use lib.IntN.{ℤ}
 use lib.ListN.{length, getD, length-append}
 use Rattle.whole.specs.Sign.{nought}
 use Rattle.scope.specs.Planes.{Plane, in-range, lead}
 use Rattle.scope.specs.Section as scope
-use Rattle.theory.specs.Section.{Corner, corner, index, vertex, corners, corners-index, clips-app, clips-snoc, clips-nothing}
+use Rattle.theory.specs.Section.{index, corners, corners-index, clips-app, clips-nothing, rest-length}
 use Rattle.sections.specs.Values.{way-code, way-of, six, starts}
-use Rattle.sections.specs.Tables.{row, look, corner-at, read, indices, rows-to, rows-down}
-use Rattle.sections.specs.Asked.{Region, Polygon, ClipIn, ClippedOn, Supported, ClipsIn}
+use Rattle.sections.specs.Tables.{row, look, read, indices, rows-to}
+use Rattle.sections.specs.Asked.{Region, Polygon, ClipIn, ClippedOn}
 use Rattle.sections.proofs.Rules.{way-back, way-small}
 use Rattle.sections.proofs.Cells.{read-none, look-row, box-in}
 use Rattle.sections.proofs.Loops.{start-small, start-entry}
-use Rattle.sections.proofs.Clips.{indices-at, indices-length, indices-none, clipped-polygon}
+use Rattle.sections.proofs.Clips.{indices-at, indices-none, clipped-polygon}
 
 -- ---- the start
 
@@ -103,7 +103,7 @@ module _ (s : Plane) (plane : ℕ → Plane) where
 
 -- ---- rows in order
 
-look-6 : (hs : List ℤ) (width i : ℕ) → look hs width (6 + i) ≡ row hs width i
+pub look-6 : (hs : List ℤ) (width i : ℕ) → look hs width (6 + i) ≡ row hs width i
 look-6 hs width i = let e : 6 + i - 6 ≡ i = omega arith in sym (look-row hs width (6 + i) (omega arith)) ∙ ap (row hs width) e
 
 module _ (s : Plane) (hs : List ℤ) (rows : ℕ) where
@@ -126,14 +126,6 @@ module _ (s : Plane) (hs : List ℤ) (rows : ℕ) where
   rows-length zero = refl
   rows-length (suc i) = length-append (rows-to hs 4 i) (row hs 4 i ∷ []) ∙ omega (arith, rows-length i)
 
-  rest-length : (w : scope.Way) → length (scope.rest w) ≡ 2
-  rest-length scope.along-x = refl
-  rest-length scope.against-x = refl
-  rest-length scope.along-y = refl
-  rest-length scope.against-y = refl
-  rest-length scope.along-z = refl
-  rest-length scope.against-z = refl
-
   pub rows-few : (i : ℕ) → i < rows → rows ≤ 128 → length (all-to i) ≤ 129
   rows-few i l m = omega (arith, length-append (scope.rest (scope.way s)) (rows-to hs 4 i), rows-length i, rest-length (scope.way s))
 
@@ -144,39 +136,6 @@ module _ (s : Plane) (hs : List ℤ) (rows : ℕ) where
   rows-gone i (suc d) (suc n) e z =
       ap (λ g. scope.clips s g (scope.start (scope.way s))) (sym (rows-more n)) ∙ clips-app s (all-to n) (look hs 4 (6 + n) ∷ []) (scope.start (scope.way s))
       ∙ ap (scope.clips s (look hs 4 (6 + n) ∷ [])) (rows-gone i d n (omega arith) z) ∙ clips-nothing s (look hs 4 (6 + n) ∷ [])
-
--- ---- rows last first
-
--- gs are clipped, and the first `left` rows are to come
-pub record Going (s : Plane) (hs : List ℤ) (depth : ℕ) (t : List ℤ) (m left : ℕ) : Type 0 where
-  pub gs : List Plane
-  pub polygon : Polygon s (look hs 8) (6 + depth) gs t m
-  pub whole : gs ++ rows-down hs 8 left ≡ scope.rest (scope.way s) ++ rows-down hs 8 depth
-  pub count : length gs + left ≡ 2 + depth
-
-module _ (s : Plane) (hs : List ℤ) (depth : ℕ) where
-  pub going-first : (t : List ℤ) (n : ℕ) → Polygon s (look hs 8) 6 (scope.rest (scope.way s)) t n → Going s hs depth t n depth
-  going-first t n p = record { gs = scope.rest (scope.way s); polygon = wider s (look hs 8) 6 (6 + depth) (omega arith) p; whole = refl; count = omega (arith, rest-length s hs depth (scope.way s)) }
-
-  pub going-more : (t t′ : List ℤ) (m r left next : ℕ) → left ≡ suc next → (g : Going s hs depth t m left) → Polygon s (look hs 8) (6 + depth) (g .gs ++ look hs 8 (6 + next) ∷ []) t′ r → Going s hs depth t′ r next
-  unfolding rows-down
-  going-more t t′ m r left next e g p = record {
-    gs = g .gs ++ look hs 8 (6 + next) ∷ [];
-    polygon = p;
-    whole = append-assoc (g .gs) (look hs 8 (6 + next) ∷ []) (rows-down hs 8 next) ∙ ap (λ h. g .gs ++ h ∷ rows-down hs 8 next) (look-6 hs 8 next) ∙ ap (λ n. g .gs ++ rows-down hs 8 n) (sym e) ∙ g .whole;
-    count = omega (arith, g .count, length-append (g .gs) (look hs 8 (6 + next) ∷ []));
-  }
-
-  pub going-gone : (t : List ℤ) (m left : ℕ) → Going s hs depth t m left → m ≡ 0 → Polygon s (look hs 8) (6 + depth) (scope.rest (scope.way s) ++ rows-down hs 8 depth) t 0
-  going-gone t m left g e = nothing-polygon s (look hs 8) (6 + depth) (scope.rest (scope.way s) ++ rows-down hs 8 depth) t
-      (ap (λ l. scope.clips s l (scope.start (scope.way s))) (sym (g .whole)) ∙ clips-app s (g .gs) (rows-down hs 8 left) (scope.start (scope.way s))
-      ∙ ap (scope.clips s (rows-down hs 8 left)) (polygon-nothing s (look hs 8) (g .polygon) e) ∙ clips-nothing s (rows-down hs 8 left))
-
-  pub going-last : (t : List ℤ) (m left : ℕ) → Going s hs depth t m left → left ≡ 0 → Polygon s (look hs 8) (6 + depth) (scope.rest (scope.way s) ++ rows-down hs 8 depth) t m
-  unfolding rows-down
-  going-last t m left g e =
-      let q : g .gs ≡ scope.rest (scope.way s) ++ rows-down hs 8 depth = sym (append-nil (g .gs)) ∙ ap (λ n. g .gs ++ rows-down hs 8 n) (sym e) ∙ g .whole in
-      rw q at (g .polygon)
 
 -- ---- the start and its two clips, as the code makes them
 
@@ -238,13 +197,3 @@ module _ (s : Plane) (hs : List ℤ) (rows : ℕ) (g : Region s hs 4 (6 + rows))
     pub turn-gone : r ≡ 0 → Polygon s (look hs 4) (6 + rows) (scope.rest (scope.way s) ++ rows-to hs 4 rows) t′ 0
     turn-gone e = nothing-polygon s (look hs 4) (6 + rows) (scope.rest (scope.way s) ++ rows-to hs 4 rows) t′
         (rows-gone s hs rows (i + 1) (rows - (i + 1)) rows (omega arith) (polygon-nothing s (look hs 4) turn-more e))
-
--- ---- a turn of the loop over rows last first
-
-module _ (s : Plane) (hs : List ℤ) (depth : ℕ) (g : Region s hs 8 (6 + depth)) (t : List ℤ) (n left next : ℕ) (e : left ≡ suc next) (u : left ≤ depth) (out : List ℤ) (p : Going s hs depth t n left)
-    (m : 675 ≤ length t) (m′ : 675 ≤ length out) where
-  pub back-clip : ClipIn s hs 8 (6 + next) t n out
-  back-clip = row-clip s hs 8 depth g next (omega arith) (p .gs) t n out (p .polygon) (omega (arith, p .count, g .few)) m m′
-
-  pub back-more : (t′ : List ℤ) (r : ℕ) → ClippedOn s (look hs 8) (6 + next) t n t′ r → Going s hs depth t′ r next
-  back-more t′ r q = going-more s hs depth t t′ n r left next e p (row-clipped s hs 8 depth g next (omega arith) (p .gs) t n out (p .polygon) (omega (arith, p .count, g .few)) m m′ t′ r q)

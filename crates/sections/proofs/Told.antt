@@ -1,9 +1,8 @@
 -- The answers: document 01's answer in each case that the code's tests lead to, and what is left in the table of bounds.
 use mathlib.Core.Path.{_≡_, refl, sym, ap, _∙_}
-use mathlib.Core.Bool.{Bool, true, false, cond}
-use mathlib.Core.Logic.{_≢_}
+use mathlib.Core.Bool.{true, false}
 use mathlib.Core.List.{List, [], _∷_, _++_, map}
-use mathlib.Core.Option.{Option, none, some}
+use mathlib.Core.Option.{none, some}
 use Prim.Native.Nat.{ℕ, zero, suc, _+_, _-_, _*_, _/_, _%_, _≤_, _<_}
 use native.Mathlib.Omega.{arith}
 use lib.Dec.{leb}
@@ -11,28 +10,23 @@ use lib.IntN.{ℤ, pos}
 use lib.ListN.{length, getD, replicate, length-append}
 use lib.Seq.{sets}
 use borrow.Author.Tests.{le-leb, lt-leb}
-use Rattle.whole.specs.Tests.{differ, and-true}
-use Rattle.whole.specs.Sign.{nought}
+use Rattle.whole.specs.Tests.{and-true}
 use Rattle.whole.specs.Lists.{map-length}
-use Rattle.scope.specs.Planes.{Plane, in-range, lead, half-fault}
+use Rattle.scope.specs.Planes.{Plane, in-range, half-fault}
 use Rattle.scope.specs.Section as scope
 use Rattle.scope.specs.Answers.{Answer, given, refused, no-fault, no-faults, flat-planes, quads, quads-then, section-answer, section-by, bounds-by, left, filled}
-use Rattle.theory.specs.Section.{Corner, corner, index, vertex, corners, witness, witness-corners, section-enough}
-use Rattle.theory.specs.Section.Witness.{added}
-use Rattle.planes.specs.Values.{quad, plane, meeting}
+use Rattle.theory.specs.Section.{index}
+use Rattle.planes.specs.Values.{quad, plane}
 use Rattle.planes.specs.declared.Plane as struct
-use Rattle.planes.specs.declared.Meeting.{Meeting}
 use Rattle.sections.specs.declared.Sectioned.{Sectioned}
 use Rattle.sections.specs.declared.Sectioned.the-variants.{Polygon as Bounds, Nothing, Refused}
-use Rattle.sections.specs.declared.Witnessed.{Witnessed}
-use Rattle.sections.specs.declared.Witnessed.the-variants.{At, Nothing as Missed}
-use Rattle.sections.specs.Values.{section-of, witness-of}
-use Rattle.sections.specs.Tables.{row, look, corner-at, read, indices, rows-to, rows-down}
-use Rattle.sections.specs.Asked.{Region, Polygon, WriteIn, AddedIn}
+use Rattle.sections.specs.Values.{section-of}
+use Rattle.sections.specs.Tables.{row, look, corner-at, indices, rows-to}
+use Rattle.sections.specs.Asked.{Region, Polygon, WriteIn}
 use Rattle.sections.specs.Follows.{half-in}
-use Rattle.sections.specs.Promises.{answer-to, SectionTold, Drawn, CutIn}
+use Rattle.sections.specs.Promises.{answer-to, SectionTold, Drawn}
 use Rattle.sections.proofs.Cells.{look-row, box-in}
-use Rattle.sections.proofs.Clips.{indices-length, polygon-corner, polygon-vertex}
+use Rattle.sections.proofs.Clips.{indices-length}
 use Rattle.sections.proofs.Rows.{lawful-support, lawful-row, flat-length, sets-zeros}
 use Rattle.sections.proofs.Sections.{polygon-nothing}
 
@@ -162,7 +156,7 @@ module _ (s : struct.Plane) (halves bounds work : List ℤ) where
 
 -- ---- what the loops are given
 
-between : (hs : List ℤ) (width rows k : ℕ) → ((i : ℕ) → i < rows → in-range (row hs width i) ≡ true) → k < 6 + rows → in-range (look hs width k) ≡ true
+pub between : (hs : List ℤ) (width rows k : ℕ) → ((i : ℕ) → i < rows → in-range (row hs width i) ≡ true) → k < 6 + rows → in-range (look hs width k) ≡ true
 between hs width rows k f l = by (6 - k) refl
   where
     by : (j : ℕ) → 6 - k ≡ j → in-range (look hs width k) ≡ true
@@ -181,17 +175,6 @@ region-rows s hs rows l m e =
       found = λ k b c. omega arith;
       ranged = λ k b. between hs 4 rows k (λ i u. half-in (row hs 4 i) (lawful-row s hs rows q i u) .0) b;
     }
-
-module _ (s : Plane) (path : List ℤ) (depth : ℕ) (first second : List ℤ) (a : CutIn s path depth first second) where
-  pub region-path : Region s path 8 (6 + depth)
-  region-path = record {
-    support = a .support;
-    normal = a .normal;
-    box = omega arith;
-    few = omega (arith, a .few);
-    found = λ k b c. omega (arith, a .room);
-    ranged = λ k b. between path 8 depth k (a .ranged) b;
-  }
 
 -- ---- what the polygon at the end says
 
@@ -213,42 +196,6 @@ write-in s hs rows gs t n bounds r p l = record {
   found = λ i m. r .found (index (corner-at t i)) (p .below i m);
   room = l;
 }
-
--- ---- a point of the section
-
-not-empty : (bs : List Plane) (n : ℕ) → length bs ≡ n → (n ≡ 0 → ⊥) → bs ≢ []
-not-empty bs n e f g = f (sym e ∙ ap length g)
-
-witness-some : (s : Plane) (bs : List Plane) (m : Meeting) → bs ≢ [] → meeting m ≡ witness s bs → At m ≡ witness-of s bs
-witness-some s [] m f e = absurd (f refl)
-witness-some s (b ∷ bs) m f e = ap (λ (X : Plane). At (record { x = X .x; y = X .y; z = X .z; w = X .w })) e
-
-module _ (s : Plane) (hs : List ℤ) (width top : ℕ) (gs : List Plane) (r : Region s hs width top) (t : List ℤ) (n : ℕ) (p : Polygon s (look hs width) top (scope.rest (scope.way s) ++ gs) t n) (f : n ≡ 0 → ⊥) where
-  abbrev bs : List Plane
-  bs = scope.section s gs
-
-  found-some : bs ≢ []
-  found-some = not-empty bs n (end-length s (look hs width) top gs t n p) f
-
-  three : 3 ≤ n
-  three = omega (arith, section-enough s gs (r .normal) found-some, end-length s (look hs width) top gs t n p)
-
-  pub end-added : AddedIn t
-  end-added = record { room = omega (arith, p .room, three); vertex-in = λ i l. polygon-vertex s hs width top (scope.rest (scope.way s) ++ gs) r t n p i (omega (arith, three)) }
-
-  vertex-is : (i : ℕ) → i < n → vertex (corner-at t i) ≡ vertex (getD (corners s (look hs width) (indices t n)) i (corner 0 s))
-  vertex-is i l = ap vertex (sym (polygon-corner s hs width top (scope.rest (scope.way s) ++ gs) r t n p i l))
-
-  pub end-witness : (m : Meeting) → meeting m ≡ added (vertex (corner-at t 0)) (vertex (corner-at t 1)) (vertex (corner-at t 2)) → At m ≡ witness-of s bs
-  end-witness m e =
-      let d = corner 0 s in
-      let x = vertex-is 0 (omega (arith, three)) in
-      let y = vertex-is 1 (omega (arith, three)) in
-      let z = vertex-is 2 (omega (arith, three)) in
-      witness-some s bs m found-some (e ∙ (λ j. added (x j) (y j) (z j)) ∙ sym (witness-corners s (look hs width) d (indices t n) (omega (arith, three, indices-length t n))) ∙ ap (witness s) (end-section s (look hs width) top gs t n p))
-
-pub missed : (s : Plane) (bs : List Plane) → bs ≡ [] → Missed ≡ witness-of s bs
-missed s bs e = rw e
 
 -- ---- the whole call
 

@@ -3,8 +3,6 @@
 --     half-in            a half-space without fault is in range, and its normal is not zero
 --     section-answered   for a lawful call the answer is the section's bounds, if they have room
 --     nothing-told       a lawful call answers Nothing exactly if no point lies on the plane, strictly in the box and strictly in every half-space
---     cut-nothing        `cut` answers Nothing exactly if the plane does not cut the cell
---     cut-inside         otherwise its point lies on the plane and in the cell
 use mathlib.Core.Path.{_≡_, refl, sym, ap, _∙_}
 use mathlib.Core.Bool.{Bool, true, false}
 use mathlib.Core.Logic.{_≢_, _↔_}
@@ -12,25 +10,22 @@ use mathlib.Core.List.{List, [], _∷_, _++_}
 use mathlib.Core.Option.{some}
 use Prim.Native.Nat.{ℕ, _/_, _≤_}
 use lib.Dec.{leb}
-use lib.IntN.{ℤ, pos}
+use lib.IntN.{ℤ}
 use lib.ListN.{length}
 use borrow.Author.Tests.{le-leb}
 use Rattle.whole.specs.Tests.{differ, and-true}
 use Rattle.whole.specs.Sign.{Sign, minus, nought, plus}
 use Rattle.scope.specs.Limits.{most-halves, stated}
 use Rattle.scope.specs.Planes.{Plane, at, in-range, lead, half-fault, half-faults}
-use Rattle.scope.specs.Cells.{Inside, box, Cuts}
+use Rattle.scope.specs.Cells.{box, Cuts}
 use Rattle.scope.specs.Section.{section}
-use Rattle.scope.specs.Answers.{Answer, given, refused, no-fault, no-faults, quads, section-answer, section-by, bounds-by}
-use Rattle.theory.specs.Section.{witness, section-nothing, section-witness}
-use Rattle.planes.specs.Values.{plane, meeting}
+use Rattle.scope.specs.Answers.{given, refused, no-fault, no-faults, quads, section-answer, section-by, bounds-by}
+use Rattle.theory.specs.Section.{section-nothing}
+use Rattle.planes.specs.Values.{plane}
 use Rattle.planes.specs.declared.Plane as struct
-use Rattle.planes.specs.declared.Meeting.{Meeting}
 use Rattle.sections.specs.declared.Sectioned.{Sectioned}
-use Rattle.sections.specs.declared.Sectioned.the-variants.{Polygon, Nothing, Refused}
-use Rattle.sections.specs.declared.Witnessed.{Witnessed}
-use Rattle.sections.specs.declared.Witnessed.the-variants.{At, Nothing as Missed}
-use Rattle.sections.specs.Values.{section-of, witness-of}
+use Rattle.sections.specs.declared.Sectioned.the-variants.{Nothing}
+use Rattle.sections.specs.Values.{section-of}
 use Rattle.sections.specs.Promises.{SectionTold}
 
 -- ---- no second answer
@@ -74,24 +69,3 @@ module _ (s : struct.Plane) (halves bounds work : List ℤ) (hs : List Plane) (w
       (λ e. section-nothing (plane s) hs normal .0 (nothing-of (length bounds / 4) (section (plane s) hs) (ap section-of (sym section-answered) ∙ sym (h .answer) ∙ e))),
       (λ c. h .answer ∙ ap section-of section-answered ∙ ap (λ bs. section-of (bounds-by (length bounds / 4) bs)) (section-nothing (plane s) hs normal .1 c)),
     )
-
--- ---- cut
-
-module _ (s : Plane) (hs : List Plane) (n : lead s ≢ nought) where
-  missed-of : (bs : List Plane) → witness-of s bs ≡ Missed → bs ≡ []
-  missed-of [] e = refl
-  missed-of (b ∷ bs) e = differ (cc)
-
-  pub cut-nothing : (witness-of s (section s hs) ≡ Missed) ↔ ¬ Cuts s (hs ++ box)
-  cut-nothing = ((λ e. section-nothing s hs n .0 (missed-of (section s hs) e)), (λ c. ap (witness-of s) (section-nothing s hs n .1 c)))
-
-  found-of : (bs : List Plane) (m : Meeting) → witness-of s bs ≡ At m → (bs ≢ []) × (meeting m ≡ witness s bs)
-  found-of [] m e = differ (cc)
-  found-of (b ∷ bs) m e = ((λ f. differ (cc)), ap point-of (sym e))
-    where
-      point-of : Witnessed → Plane
-      point-of (At m) = meeting m
-      point-of Missed = s
-
-  pub cut-inside : (m : Meeting) → witness-of s (section s hs) ≡ At m → (at s (meeting m) ≡ pos 0) × Inside (hs ++ box) (meeting m)
-  cut-inside m e = let f = found-of (section s hs) m e in rw (f .1) (section-witness s hs n (f .0))

@@ -3,3 +3,4 @@ pub mod Tables
 pub mod Asked
 pub mod Promises
 pub mod Follows
+pub mod Paths

@@ -6,7 +6,6 @@
 --     six, starts       the indices of its four bounds and of the remaining axis's two planes; those of the four
 --     lawful-is         a test as the code answers it
 --     section-of        an answer of document 01 as the code's
---     witness-of        a section as the code answers whether it is Nothing
 use mathlib.Core.Bool.{Bool, true, false}
 use mathlib.Core.List.{List, [], _∷_}
 use Prim.Native.Nat.{ℕ, zero, suc, _+_}
@@ -16,14 +15,10 @@ use Rattle.whole.specs.Sign.{Sign, minus, nought, plus}
 use Rattle.scope.specs.Planes.{Plane}
 use Rattle.scope.specs.Section as scope
 use Rattle.scope.specs.Answers.{Answer, given, refused}
-use Rattle.theory.specs.Section.{witness}
-use Rattle.planes.specs.Promises.{meeting-is}
 use Rattle.sections.specs.declared.Lawful.{Lawful}
 use Rattle.sections.specs.declared.Lawful.the-variants.{Yes, No}
 use Rattle.sections.specs.declared.Sectioned.{Sectioned}
 use Rattle.sections.specs.declared.Sectioned.the-variants.{Polygon, Refused, Nothing as Sectioned·Nothing}
-use Rattle.sections.specs.declared.Witnessed.{Witnessed}
-use Rattle.sections.specs.declared.Witnessed.the-variants.{At, Nothing as Witnessed·Nothing}
 use Rattle.sections.specs.declared.Signal.{Signal}
 use Rattle.sections.specs.declared.Signal.the-variants.{Nothing, B, HB}
 
@@ -96,7 +91,3 @@ abbrev pub section-of : Answer (List Plane) → Sectioned
 section-of (given []) = Sectioned·Nothing
 section-of (given (b ∷ bs)) = Polygon (length (b ∷ bs))
 section-of (refused n) = Refused n
-
-abbrev pub witness-of : Plane → List Plane → Witnessed
-witness-of s [] = Witnessed·Nothing
-witness-of s (b ∷ bs) = At (meeting-is (witness s (b ∷ bs)))

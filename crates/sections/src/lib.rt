@@ -4,6 +4,7 @@
 mod clipping;
 mod codes;
 mod start;
+mod stops;
 mod table;
 
 ghost use mathlib.Core.Path.{_≡_};
@@ -12,19 +13,24 @@ ghost use Prim.Native.Nat.{_+_, _*_, _≤_};
 ghost use lib.IntN.{pos};
 ghost use lib.ListN.{length, replicate};
 ghost use lib.Seq.{sets};
-ghost use Rattle.scope.specs.Section.{way, rest, section as the-section};
+ghost use Rattle.scope.specs.Cells.{box};
+ghost use Rattle.scope.specs.Section.{way, rest};
 ghost use Rattle.scope.specs.Planes.{half-fault};
 ghost use Rattle.scope.specs.Answers.{no-fault, no-faults, flat-planes};
 ghost use Rattle.planes.specs.Values.{plane};
-ghost use Rattle.sections.specs.Values.{lawful-is, witness-of};
+ghost use Rattle.sections.specs.Values.{lawful-is};
 ghost use Rattle.sections.specs.Tables.{look, indices, rows-to, rows-down};
+ghost use Rattle.sections.specs.Paths.{CutIn, CutTold};
 ghost use Rattle.sections.specs.Asked.{Polygon, ClipsIn, BoundedIn, WriteIn};
-ghost use Rattle.sections.specs.Promises.{SectionTold, Drawn, CutIn};
+ghost use Rattle.sections.specs.Promises.{SectionTold, Drawn};
 use clipping::clip_on;
 use planes::MadePlane;
 use planes::Meeting;
 use planes::Plane;
+use start::begin;
 use start::opened;
+use start::way;
+use stops::stopped;
 use table::added;
 use table::index_at;
 use table::row;
@@ -43,6 +49,12 @@ pub enum Sectioned {
 pub enum Witnessed {
     At(Meeting),
     Nothing,
+}
+
+// The index of a bound that a point is not in front of, or none.
+pub enum Stopped {
+    By(usize),
+    No,
 }
 
 // What a bound puts out: nothing, the bound, or the clipping half-space and the bound.
@@ -187,41 +199,27 @@ pub fn section(s: Plane, halves: &[i64], bounds: &mut [i64], work: &mut [i64]) -
     r
 }
 
-// ---- the half-spaces of a path, last first
-
-// Clips the polygon of n corners by the half-spaces of the first depth rows of a path, last first.
-fn clip_back(
-    s: Plane,
-    path: &[i64],
-    depth: usize,
-    t: &mut [i64],
-    n: usize,
-    out: &mut [i64],
-) -> usize
-    requires { ⌜ ClipsIn (plane s) (now path) 8 depth (now t) n (now out) ⌝ }
-    ensures { λ r. ⌜ Polygon (plane s) (look (now (path .entry)) 8) (6 + depth) (rest (way (plane s)) ++ rows-down (now (path .entry)) 8 depth) (now (t .exit)) r ⌝ }
-{
-    let mut m = n;
-    let mut left = depth;
-    while 0 < left {
-        left -= 1;
-        m = clip_on(s, path, 8, 6 + left, t, m, out);
-        if m == 0 {
-            return 0;
-        }
-    }
-    m
-}
+// ---- the half-spaces of a path
 
 // Whether the plane s cuts the cell of a path: a point on it and in the cell, or Nothing.
+// A half-space is clipped by only where it is needed: as long as the first three vertices, added, are not in front of some bound, the polygon
+// is clipped by that bound. No bound comes twice, so the last line is never reached.
 pub fn cut(s: Plane, path: &[i64], depth: usize, first: &mut [i64], second: &mut [i64]) -> Witnessed
     requires { ⌜ CutIn (plane s) (now path) depth (now first) (now second) ⌝ }
-    ensures { λ r. ⌜ r ≡ witness-of (plane s) (the-section (plane s) (rows-down (now (path .entry)) 8 depth)) ⌝ }
+    ensures { λ r. ⌜ CutTold (plane s) (rows-down (now (path .entry)) 9 depth ++ box) r ⌝ }
 {
-    let n = opened(s, path, 8, first, second);
-    let m = clip_back(s, path, depth, first, n, second);
-    if m == 0 {
-        return Witnessed::Nothing;
+    let w = way(s);
+    begin(s, w, first);
+    let mut n: usize = 4;
+    for _ in 0..depth + 3 {
+        if n == 0 {
+            return Witnessed::Nothing;
+        }
+        let x = added(first);
+        let Stopped::By(k) = stopped(path, depth, w / 2, x.x, x.y, x.z, x.w) else {
+            return Witnessed::At(x);
+        };
+        n = clip_on(s, path, 9, k, first, n, second);
     }
-    Witnessed::At(added(first))
+    Witnessed::Nothing
 }

@@ -56,12 +56,12 @@ module _ {xs path first second : List ℤ} (g : Ground xs path first second) whe
 
 on-cell : {xs path : List ℤ} {d : ℕ} {c : List Plane} → OnPath (In xs) path d c → Cell Lawful c
 on-cell at-box = whole
-on-cell (below h true g q e w) = ahead (q .lawful) (on-cell h)
-on-cell (below h false g q e w) = behind (q .lawful) (on-cell h)
+on-cell (below h true g q e w l) = ahead (q .lawful) (on-cell h)
+on-cell (below h false g q e w l) = behind (q .lawful) (on-cell h)
 
 pub on-within : {xs path : List ℤ} {d : ℕ} {c : List Plane} → OnPath (In xs) path d c → (X : Point) → Inside c X → Inside box X
 on-within at-box X i = i
-on-within (below h s g q e w) X i = on-within h X (tail i)
+on-within (below h s g q e w l) X i = on-within h X (tail i)
 
 -- ---- the kind
 

@@ -3,14 +3,13 @@
 --     halves-deep, halves-room                  room for one more half-space on the path
 --     Pushed, half-in, half-kept                a half: what its form is given, and what it leaves of the path
 --     halves-front, halves-back, halves-put     the node, from the answers of its halves
-use mathlib.Core.Path.{_≡_, refl, sym, ap, subst, _∙_}
+use mathlib.Core.Path.{_≡_, sym, subst, _∙_}
 use mathlib.Core.Bool.{Bool, true, false}
-use mathlib.Core.List.{List, [], _∷_}
+use mathlib.Core.List.{List, _∷_}
 use Prim.Native.Nat.{ℕ, suc, _+_, _*_, _≤_, _<_}
 use native.Mathlib.Omega.{arith}
 use lib.IntN.{ℤ, pos}
-use lib.ListN.{length, getD, set}
-use lib.Seq.{sets, getD-set-other}
+use lib.ListN.{length, getD}
 use Rattle.whole.specs.Tests.{is-true}
 use Rattle.scope.specs.Planes.{Plane, in-range}
 use Rattle.scope.specs.Solids.{Mark, Tree, place}
@@ -22,15 +21,15 @@ use Rattle.planes.specs.Values.{plane, meeting}
 use Rattle.planes.specs.Bounds.{PlaneIn, in-range-in}
 use Rattle.planes.specs.declared.Plane as struct
 use Rattle.planes.specs.declared.Meeting.{Meeting}
-use Rattle.cells.specs.Paths.{OnPath, Witness}
-use Rattle.cells.proofs.Paths.{on-rows, on-kept, on-same, on-push}
+use Rattle.cells.specs.Paths as paths
+use Rattle.cells.specs.Paths.{OnPath, PathIn, Witness}
+use Rattle.cells.proofs.Paths.{on-rows, on-kept, on-links, links-same, on-same, pushed-before, on-push}
 use Rattle.walks.specs.declared.Walked.{Walked as Answer}
 use Rattle.walks.specs.declared.Walked.the-variants.{Done, Refused}
 use Rattle.walks.specs.Standing.{list}
 use Rattle.walks.specs.Putting.{Room, Put, Emitted}
 use Rattle.walks.specs.Walks.{In}
 use Rattle.walks.proofs.Emits.{room-same, got}
-use Rattle.walks.proofs.Cycle.{eight-of}
 use Rattle.borders.specs.declared.Pair.{Pair}
 use Rattle.borders.specs.Bounded.{listed}
 use Rattle.splits.specs.Splits.{Given, CellIn, Formed, HalvesIn, Halved}
@@ -38,11 +37,6 @@ use Rattle.splits.proofs.Places.{place-there, place-member, place-is}
 use Rattle.splits.proofs.Rests.{rest-half}
 use Rattle.splits.proofs.Shapes.{halves-differ}
 use Rattle.splits.proofs.Nodes.{Apart, node-put, front-lost, back-lost, no-rows, put-placed}
-
--- a store leaves the entries before it
-getD-sets-before : (vs l : List ℤ) (i j : ℕ) → j < i → getD (sets l i vs) j (pos 0) ≡ getD l j (pos 0)
-getD-sets-before [] l i j h = refl
-getD-sets-before (v ∷ vs) l i j h = getD-sets-before vs (set l i v) (suc i) j (omega arith) ∙ getD-set-other l i j v (pos 0) (λ e. omega arith)
 
 module _ {xs : List ℤ} {numbers a b bs : List ℕ} {t : Pair} {path₀ : List ℤ} {depth : ℕ} {first second : List ℤ} {out₀ : List ℕ} {next k : ℕ} {x : Meeting} (h : HalvesIn xs numbers a b bs t path₀ depth first second out₀ next k x) where
   abbrev the-plane : Plane
@@ -67,16 +61,20 @@ module _ {xs : List ℤ} {numbers a b bs : List ℕ} {t : Pair} {path₀ : List 
   pub halves-deep : depth < 128
   halves-deep = omega (arith, kept-few (take true the-plane (plane-in .member) cuts (on-kept (λ p q. q .member) (h .whole .given .stood .on))), h .whole .ground .few)
 
-  pub halves-room : depth * 8 + 8 ≤ length path₀
+  pub halves-room : depth * 9 + 9 ≤ length path₀
   halves-room = omega (arith, halves-deep, h .whole .ground .path-room)
+
+  -- what a push is given, where the rows before are as they were
+  pub push-asked : {path : List ℤ} → ((i : ℕ) → i < depth * 9 → getD path i (pos 0) ≡ getD path₀ i (pos 0)) → length path ≡ length path₀ → PathIn path depth × (depth * 9 + 9 ≤ length path)
+  push-asked f l = (record { few = omega (arith, halves-deep); room = omega (arith, l, halves-room); links = links-same f (on-links (h .whole .given .stood .on)) }, omega (arith, l, halves-room))
 
   -- a half-space of the listed plane stands in row `depth` of the path, and the rows before it are as they were
   pub record Pushed (s : Bool) (path path′ : List ℤ) : Type 0 where
     pub half-space : struct.Plane
     pub is : plane half-space ≡ half s the-plane
-    pub before : (i : ℕ) → i < depth * 8 → getD path i (pos 0) ≡ getD path₀ i (pos 0)
+    pub before : (i : ℕ) → i < depth * 9 → getD path i (pos 0) ≡ getD path₀ i (pos 0)
     pub long : length path ≡ length path₀
-    pub table : path′ ≡ sets path (depth * 8) (eight-of half-space x)
+    pub table : paths.Pushed path path′ depth half-space x
     pub long′ : length path′ ≡ length path
 
   module _ (s : Bool) {path path′ : List ℤ} (u : Pushed s path path′) where
@@ -85,8 +83,7 @@ module _ {xs : List ℤ} {numbers a b bs : List ℕ} {t : Pair} {path₀ : List 
     on-half {c} on =
         let d : suc depth ≡ depth + 1 = omega arith in
         subst (λ d. OnPath (In xs) path′ d (half s the-plane ∷ c)) d
-        (subst (λ l. OnPath (In xs) l (suc depth) (half s the-plane ∷ c)) (sym (u .table ∙ λ i. sets path (depth * 8) (u .is i .x ∷ u .is i .y ∷ u .is i .z ∷ u .is i .w ∷ x .x ∷ x .y ∷ x .z ∷ x .w ∷ [])))
-        (on-push {path = path} (on-same on (u .before)) s the-plane plane-in (meeting x) (subst (λ c. Witness the-plane c (meeting x)) (on-rows (h .whole .given .stood .on) ∙ sym (on-rows on)) (h .witness)) (omega (arith, u .long, halves-room))))
+        (on-push (u .table) (omega (arith, u .long, halves-room)) (on-same on (u .before)) s the-plane plane-in (u .is) (subst (λ c. Witness the-plane c (meeting x)) (on-rows (h .whole .given .stood .on) ∙ sym (on-rows on)) (h .witness)))
 
     half-given : {o : Operation} {A B : Tree} {c : List Plane} → Given xs numbers a b bs t path₀ depth k o A B c → Given xs numbers a b bs t path′ (depth + 1) (k + 1) o A B (half s the-plane ∷ c)
     half-given g = record {
@@ -111,8 +108,8 @@ module _ {xs : List ℤ} {numbers a b bs : List ℕ} {t : Pair} {path₀ : List 
 
     module _ {path″ : List ℤ} {out out′ : List ℕ} {m : ℕ} {z : Answer} (d : Formed xs numbers a b bs t path′ path″ (depth + 1) out out′ m (k + 1) z) where
       -- the rows of the path before this one are still as they were
-      pub half-kept : (i : ℕ) → i < depth * 8 → getD path″ i (pos 0) ≡ getD path₀ i (pos 0)
-      half-kept i l = d .kept i (omega (arith, l)) ∙ ap (λ p. getD p i (pos 0)) (u .table) ∙ getD-sets-before (eight-of (u .half-space) x) path (depth * 8) i l ∙ u .before i l
+      pub half-kept : (i : ℕ) → i < depth * 9 → getD path″ i (pos 0) ≡ getD path₀ i (pos 0)
+      half-kept i l = d .kept i (omega (arith, l)) ∙ pushed-before (u .table) (omega (arith, u .long, halves-room)) i l ∙ u .before i l
 
       half-emits : (o : Operation) (A B f : Tree) (c : List Plane) → Given xs numbers a b bs t path₀ depth k o A B c → Normal (both (operate o) A B) (half s the-plane ∷ c) f → Emitted (list xs) out out′ m f z
       half-emits o A B f c g n = d .emitted o A B f (half s the-plane ∷ c) (half-given g) n

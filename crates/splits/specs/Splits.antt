@@ -62,7 +62,7 @@ pub data KindIs (S : Space) (c : List Plane) : Kind → Type 0 where
   is-mixed : theory.Mixed S c → KindIs S c Mixed
 
 pub record KindTold (xs : List ℤ) (numbers a b : List ℕ) (t : Pair) (path path′ : List ℤ) (depth : ℕ) (r : Kind) : Type 0 where
-  pub kept : (i : ℕ) → i < depth * 8 → getD path′ i (pos 0) ≡ getD path i (pos 0)
+  pub kept : (i : ℕ) → i < depth * 9 → getD path′ i (pos 0) ≡ getD path i (pos 0)
   pub told : (o : Operation) (A B : Tree) (c : List Plane) → Stood xs numbers a b t path depth o A B c → KindIs (both (operate o) A B) c r
 
 -- ---- the first plane that cuts
@@ -96,7 +96,7 @@ pub record CellIn (xs : List ℤ) (numbers a b bs : List ℕ) (t : Pair) (path :
   pub room : Room out next
 
 pub record Formed (xs : List ℤ) (numbers a b bs : List ℕ) (t : Pair) (path path′ : List ℤ) (depth : ℕ) (out out′ : List ℕ) (next k : ℕ) (r : answer.Walked) : Type 0 where
-  pub kept : (i : ℕ) → i < depth * 8 → getD path′ i (pos 0) ≡ getD path i (pos 0)
+  pub kept : (i : ℕ) → i < depth * 9 → getD path′ i (pos 0) ≡ getD path i (pos 0)
   pub placed : (e m : ℕ) → r ≡ answer.the-variants.Done e m → Room out m
   pub emitted : (o : Operation) (A B s : Tree) (c : List Plane) → Given xs numbers a b bs t path depth k o A B c → Normal (both (operate o) A B) c s → Emitted (list xs) out out′ next s r
 
@@ -108,6 +108,6 @@ pub record HalvesIn (xs : List ℤ) (numbers a b bs : List ℕ) (t : Pair) (path
 
 -- of a cell that is not uniform: the rows of the halves' forms f and g, and the node's
 pub record Halved (xs : List ℤ) (numbers a b bs : List ℕ) (t : Pair) (path path′ : List ℤ) (depth : ℕ) (out out′ : List ℕ) (next k : ℕ) (r : answer.Walked) : Type 0 where
-  pub kept : (i : ℕ) → i < depth * 8 → getD path′ i (pos 0) ≡ getD path i (pos 0)
+  pub kept : (i : ℕ) → i < depth * 9 → getD path′ i (pos 0) ≡ getD path i (pos 0)
   pub placed : (e m : ℕ) → r ≡ answer.the-variants.Done e m → Room out m
   pub emitted : (o : Operation) (A B f g : Tree) (c : List Plane) → Given xs numbers a b bs t path depth k o A B c → ((m : Mark) → ¬ normal.Uniform (both (operate o) A B) c m) → Normal (both (operate o) A B) (listed xs bs k ∷ c) f → Normal (both (operate o) A B) (flip (listed xs bs k) ∷ c) g → Emitted (list xs) out out′ next (node (listed xs bs k) f g) r

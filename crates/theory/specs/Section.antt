@@ -8,6 +8,7 @@
 --     section-each      each bound is a side of the box or a half-space given
 --     section-set       whether it is Nothing depends on the set of the half-spaces, not on their order or number
 --     cuts?             whether a plane cuts a cell is decided
+--     clips-none, clips-same, clips-witness, clips-enough   the same of the start clipped by any half-spaces
 -- Passed on from the files below:
 --     clip-plain        the clip without the test for a half-space coincident with the support is the same (Plain)
 --     clipTo-all        the clip by index, as a loop makes it, is the clip (Index)
@@ -20,7 +21,7 @@ use mathlib.Core.Path.{_≡_, refl, ap}
 use mathlib.Core.Logic.{_↔_, _≢_, _⊎_, inl, inr}
 use mathlib.Core.List.{List, [], _∷_, _++_}
 use Prim.Native.Nat.{_+_, _≤_}
-use lib.ListN.{length}
+use lib.ListN.{length, length-append}
 use native.Mathlib.Omega.{arith}
 use lib.IntN.{pos}
 use Rattle.whole.specs.Tests.{differ}
@@ -32,16 +33,16 @@ use Rattle.whole.specs.Members.{_∈_, in-left, in-right, in-either}
 use Rattle.scope.specs.Limits.{most-halves}
 use Rattle.scope.specs.Planes.{Plane, Point, at, lead}
 use Rattle.scope.specs.Cells.{Inside, box, Cuts}
-use Rattle.scope.specs.Section.{rest, way, section}
+use Rattle.scope.specs.Section.{Way, along-x, against-x, along-y, against-y, along-z, against-z, start, rest, way, clips, section}
 use Rattle.theory.specs.Section.Polygon.{polygon-long}
 use Rattle.theory.specs.Section.Frames.{turn, Turns, turn-turns, way-front}
-use Rattle.theory.specs.Section.Clips.{seen, inside-view, view-inside, Live, State, live, dead, state-up}
-use Rattle.theory.specs.Section.Sides.{sides, given, given-length, given-sides, inside-given, given-inside, section-given}
+use Rattle.theory.specs.Section.Clips.{seen, inside-view, view-inside, Live, State, live, dead}
+use Rattle.theory.specs.Section.Sides.{sides, given-sides, inside-given, given-inside, section-given}
 use Rattle.theory.specs.Section.Witness.{witness-of}
 unfoldable pub use Rattle.theory.specs.Section.Witness.{witness}
 pub use Rattle.theory.specs.Section.Plain.{clip-plain}
 pub use Rattle.theory.specs.Section.Index.{clipTo-all}
-pub use Rattle.theory.specs.Section.Bounds.{Sized, meet-bounds, det4-bounds, side-bounds, witness-bounds, witness-side-bounds}
+pub use Rattle.theory.specs.Section.Bounds.{Sized, meet-bounds, det4-bounds, side-bounds, bounds-witness, witness-bounds, witness-side-bounds}
 unfoldable pub use Rattle.theory.specs.Section.Corners.{corners-from, corners}
 pub use Rattle.theory.specs.Section.Corners.{Corner, corner, index, vertex, corners-length, corners-index, corners-at, corners-index-at, corners-vertex-at, Upright, upright-at, upright-of}
 pub use Rattle.theory.specs.Section.Corners.{corner-bounds, corner-bounds-at, witness-corners, bound-side, clip-index, clips-app, clips-snoc, clips-nothing, each-at, at-each}
@@ -73,46 +74,74 @@ empty? : (bs : List Plane) → Dec (bs ≡ [])
 empty? [] = yes refl
 empty? (b ∷ bs) = no (λ e. differ (cc))
 
-module _ (s : Plane) (hs : List Plane) (n : lead s ≢ nought) where
+-- ---- any clips of the start
+
+module _ (s : Plane) (gs : List Plane) (n : lead s ≢ nought) where
   abbrev t : Turns (turn (way s))
   t = turn-turns (way s)
 
   abbrev k : pos 0 ⋖ turn (way s) s .x
   k = way-front s n
 
-  abbrev all : List Plane
-  all = given (way s) hs
-
-  -- what holds of the bounds after all clips
-  bounded : State t s k all (section s hs)
-  unfolding section
-  bounded = clips-start s n (rest (way s) ++ hs)
+  abbrev left : List Plane
+  left = clips s gs (start (way s))
 
   -- some bounds, and none
-  some : section s hs ≢ [] → Live t s k all (section s hs)
-  some ne = go bounded
+  live-left : left ≢ [] → Live t s k (start (way s) ++ gs) left
+  live-left ne = go (clips-start s n gs)
     where
-      go : State t s k all (section s hs) → Live t s k all (section s hs)
+      go : State t s k (start (way s) ++ gs) left → Live t s k (start (way s) ++ gs) left
       go (live l) = l
       go (dead e z) = absurd (ne e)
 
-  none : section s hs ≡ [] → ¬ Cuts s (hs ++ box)
-  none e c = go bounded
+  pub clips-none : left ≡ [] → (X : Point) → at s X ≡ pos 0 → ¬ Inside (start (way s) ++ gs) X
+  clips-none e X o i = go (clips-start s n gs)
     where
-      go : State t s k all (section s hs) → ⊥
-      go (live l) = omega (arith, polygon-long (l .polygon), map-length (seen (turn (way s)) s) (section s hs), ap length e)
-      go (dead e z) = z _ (inside-view t s k (c .point) (c .on) all (inside-given (way s) hs (c .inside)))
+      go : State t s k (start (way s) ++ gs) left → ⊥
+      go (live l) = omega (arith, polygon-long (l .polygon), map-length (seen (turn (way s)) s) left, ap length e)
+      go (dead e z) = z _ (inside-view t s k X o (start (way s) ++ gs) i)
+
+  -- the bounds left have the points of s that the start's and gs have
+  pub clips-same : left ≢ [] → (X : Point) → at s X ≡ pos 0 → Inside (start (way s) ++ gs) X ↔ Inside left X
+  clips-same ne X o = (
+    (λ i. view-inside t s k X o left (live-left ne .keeps _ (inside-view t s k X o (start (way s) ++ gs) i))),
+    (λ i. view-inside t s k X o (start (way s) ++ gs) (live-left ne .gives _ (inside-view t s k X o left i))),
+  )
+
+  -- their witness is such a point
+  pub clips-witness : left ≢ [] → (at s (witness s left) ≡ pos 0) × (pos 0 ⋖ witness s left .w) × Inside (start (way s) ++ gs) (witness s left)
+  clips-witness ne = let w = witness-of t s k left (live-left ne .polygon) in (w .0, w .1, clips-same ne (witness s left) (w .0) .1 (w .2))
+
+  pub clips-enough : left ≢ [] → 3 ≤ length left
+  clips-enough ne = omega (arith, polygon-long (live-left ne .polygon), map-length (seen (turn (way s)) s) left)
+
+-- ---- the section
+
+pub rest-length : (w : Way) → length (rest w) ≡ 2
+rest-length along-x = refl
+rest-length against-x = refl
+rest-length along-y = refl
+rest-length against-y = refl
+rest-length along-z = refl
+rest-length against-z = refl
+
+module _ (s : Plane) (hs : List Plane) (n : lead s ≢ nought) where
+  abbrev asked : List Plane
+  asked = rest (way s) ++ hs
+
+  none : section s hs ≡ [] → ¬ Cuts s (hs ++ box)
+  unfolding section
+  none e c = clips-none s asked n e (c .point) (c .on) (inside-given (way s) hs (c .inside))
 
   -- if it is not Nothing, a point of s is in the region exactly if it is strictly inside every bound
   pub section-same : section s hs ≢ [] → (X : Point) → pos 0 ⋖ X .w → at s X ≡ pos 0 → Inside (hs ++ box) X ↔ Inside (section s hs) X
-  section-same ne X u o = (
-    (λ i. view-inside t s k X o (section s hs) (some ne .keeps _ (inside-view t s k X o all (inside-given (way s) hs i)))),
-    (λ i. given-inside (way s) hs u (view-inside t s k X o all (some ne .gives _ (inside-view t s k X o (section s hs) i)))),
-  )
+  unfolding section
+  section-same ne X u o = let c = clips-same s asked n ne X o in ((λ i. c .0 (inside-given (way s) hs i)), (λ i. given-inside (way s) hs u (c .1 i)))
 
   -- if it is not Nothing, the witness of its bounds lies on s and in the region
   pub section-witness : section s hs ≢ [] → (at s (witness s (section s hs)) ≡ pos 0) × Inside (hs ++ box) (witness s (section s hs))
-  section-witness ne = let w = witness-of t s k (section s hs) (some ne .polygon) in (w .0, section-same ne (witness s (section s hs)) (w .1) (w .0) .1 (w .2))
+  unfolding section
+  section-witness ne = let w = clips-witness s asked n ne in (w .0, given-inside (way s) hs (w .1) (w .2))
 
   section-cuts : section s hs ≢ [] → Cuts s (hs ++ box)
   section-cuts ne = record { point = witness s (section s hs); on = section-witness ne .0; inside = section-witness ne .1 }
@@ -127,15 +156,13 @@ module _ (s : Plane) (hs : List Plane) (n : lead s ≢ nought) where
 
   -- at least three bounds, if any
   pub section-enough : section s hs ≢ [] → 3 ≤ length (section s hs)
-  section-enough ne = omega (arith, polygon-long (some ne .polygon), map-length (seen (turn (way s)) s) (section s hs))
+  unfolding section
+  section-enough ne = clips-enough s asked n ne
 
   -- at most one bound for each side of the box and each half-space
   pub section-few : length (section s hs) ≤ 6 + length hs
-  section-few = go bounded
-    where
-      go : State t s k all (section s hs) → length (section s hs) ≤ 6 + length hs
-      go (live l) = omega (arith, l .few, given-length (way s) hs)
-      go (dead e z) = omega (arith, ap length e)
+  unfolding section
+  section-few = omega (arith, clips-few s n asked, rest-length (way s), length-append (rest (way s)) hs)
 
   -- so a table of 134 holds the bounds of every lawful call
   pub section-134 : length hs ≤ most-halves → length (section s hs) ≤ 134
@@ -143,7 +170,8 @@ module _ (s : Plane) (hs : List Plane) (n : lead s ≢ nought) where
 
   -- the determinant of the normals of s and two neighbouring bounds is positive; neighbours are a bound and the next, and the last and the first
   pub section-up : Around (λ p q. pos 0 ⋖ det3 (xyz s) (xyz p) (xyz q)) (section s hs)
-  section-up = state-up t s k all (section s hs) bounded
+  unfolding section
+  section-up = clips-up s n asked
 
 -- whether a plane cuts a cell is decided, by its section
 pub cuts? : (s : Plane) → lead s ≢ nought → (hs : List Plane) → Dec (Cuts s (hs ++ box))

@@ -6,7 +6,7 @@
 --     side-code, side-mark, side-b                  the side's walk, from the answers of these
 use mathlib.Core.Path.{_≡_, refl, sym, ap, subst, _∙_}
 use mathlib.Core.Bool.{Bool, true, false}
-use mathlib.Core.List.{List, [], _∷_}
+use mathlib.Core.List.{List, _∷_}
 use mathlib.Core.Option.{Option, none, some}
 use Prim.Native.Nat.{ℕ, suc, _+_, _*_, _≤_, _<_}
 use native.Mathlib.Decide.{decLe}
@@ -14,12 +14,11 @@ use native.Mathlib.Omega.{arith}
 use lib.Dec.{eqb}
 use borrow.Author.Tests.{eqb-true, eqb-false}
 use lib.IntN.{ℤ, pos}
-use lib.ListN.{length, getD, set}
-use lib.Seq.{sets, getD-set-other}
+use lib.ListN.{length, getD}
 use Rattle.whole.specs.Tests.{differ, is-true}
 use Rattle.scope.specs.Planes.{Plane, in-range}
 use Rattle.scope.specs.Solids.{Mark, Tree, leaf, node, mark, number, place}
-use Rattle.scope.specs.Cells.{Cuts, Walked, end, join, Operation, operate}
+use Rattle.scope.specs.Cells.{Cuts, end, join, Operation, operate}
 use Rattle.scope.specs.Text.{operation-code}
 use Rattle.theory.specs.Cells.Sides.{half}
 use Rattle.theory.specs.Cells.Path.{take, kept-few}
@@ -28,8 +27,9 @@ use Rattle.planes.specs.Bounds.{PlaneIn, in-range-in}
 use Rattle.planes.specs.declared.Plane as struct
 use Rattle.planes.specs.declared.Meeting.{Meeting}
 use Rattle.tables.specs.Rows.{plane-at}
-use Rattle.cells.specs.Paths.{OnPath, Witness}
-use Rattle.cells.proofs.Paths.{on-rows, on-kept, on-same, on-push}
+use Rattle.cells.specs.Paths as paths
+use Rattle.cells.specs.Paths.{OnPath, PathIn, Witness}
+use Rattle.cells.proofs.Paths.{on-rows, on-kept, on-links, links-same, on-same, pushed-before, on-push}
 use Rattle.walks.specs.declared.Turn.{Turn}
 use Rattle.walks.specs.declared.Ended.{Ended}
 use Rattle.walks.specs.declared.Ended.the-variants as Ended
@@ -44,11 +44,6 @@ use Rattle.walks.proofs.RowsRead.{offset-b, in-b as in-b-rows}
 use Rattle.walks.proofs.Emits.{room?, room-same, got, mark-done, closed, front-lost, back-lost}
 use Rattle.walks.proofs.Ways.{RowAt, as-row, as-mark, code-small, BothSides, walk-cut, second-alone}
 
--- a store leaves the entries before it
-getD-sets-before : (vs l : List ℤ) (i j : ℕ) → j < i → getD (sets l i vs) j (pos 0) ≡ getD l j (pos 0)
-getD-sets-before [] l i j h = refl
-getD-sets-before (v ∷ vs) l i j h = getD-sets-before vs (set l i v) (suc i) j (omega arith) ∙ getD-set-other l i j v (pos 0) (λ e. omega arith)
-
 -- a path leads to one cell
 cell-one : {Q : Plane → Type 0} {path : List ℤ} {d : ℕ} {c e : List Plane} → OnPath Q path d c → OnPath Q path d e → c ≡ e
 cell-one h k = on-rows h ∙ sym (on-rows k)
@@ -57,9 +52,6 @@ cell-one h k = on-rows h ∙ sym (on-rows k)
 abbrev pub child : Bool → ℕ
 child true = 1
 child false = 2
-
-abbrev pub eight-of : struct.Plane → Meeting → List ℤ
-eight-of p x = p .a ∷ p .b ∷ p .c ∷ p .d ∷ x .x ∷ x .y ∷ x .z ∷ x .w ∷ []
 
 -- the result of one side of a node's walk
 abbrev result : {J : Plane → Tree → Tree → Tree} {L : List Plane → Mark → Tree → Type 0} {c : List Plane} {p : Plane} {f b S : Tree} → Bool → BothSides J L c p f b S → Tree
@@ -121,16 +113,20 @@ module _ {xs : List ℤ} {numbers a b : List ℕ} {t : Turn} {path₀ : List ℤ
   pub node-deep : depth < 128
   node-deep = omega (arith, kept-few (take true the-plane (plane-in .member) cuts (on-kept (λ p q. q .member) (h .side .here .on))), h .side .ground .few)
 
-  pub node-room : depth * 8 + 8 ≤ length path₀
+  pub node-room : depth * 9 + 9 ≤ length path₀
   node-room = omega (arith, node-deep, h .side .ground .path-room)
+
+  -- what a push is given, where the rows before are as they were
+  pub push-asked : {path : List ℤ} → ((i : ℕ) → i < depth * 9 → getD path i (pos 0) ≡ getD path₀ i (pos 0)) → length path ≡ length path₀ → PathIn path depth × (depth * 9 + 9 ≤ length path)
+  push-asked f l = (record { few = omega (arith, node-deep); room = omega (arith, l, node-room); links = links-same f (on-links (h .side .here .on)) }, omega (arith, l, node-room))
 
   -- a half-space of the row's plane stands in row `depth` of the path, and the rows before it are as they were
   pub record Pushed (s : Bool) (path path′ : List ℤ) : Type 0 where
     pub half-space : struct.Plane
     pub is : plane half-space ≡ half s the-plane
-    pub before : (i : ℕ) → i < depth * 8 → getD path i (pos 0) ≡ getD path₀ i (pos 0)
+    pub before : (i : ℕ) → i < depth * 9 → getD path i (pos 0) ≡ getD path₀ i (pos 0)
     pub long : length path ≡ length path₀
-    pub table : path′ ≡ sets path (depth * 8) (eight-of half-space x)
+    pub table : paths.Pushed path path′ depth half-space x
     pub long′ : length path′ ≡ length path
 
   module _ (s : Bool) {path path′ : List ℤ} (k : Pushed s path path′) where
@@ -139,8 +135,7 @@ module _ {xs : List ℤ} {numbers a b : List ℕ} {t : Turn} {path₀ : List ℤ
     on-half {c} on =
         let d : suc depth ≡ depth + 1 = omega arith in
         subst (λ d. OnPath (In xs) path′ d (half s the-plane ∷ c)) d
-        (subst (λ l. OnPath (In xs) l (suc depth) (half s the-plane ∷ c)) (sym (k .table ∙ λ i. sets path (depth * 8) (k .is i .x ∷ k .is i .y ∷ k .is i .z ∷ k .is i .w ∷ x .x ∷ x .y ∷ x .z ∷ x .w ∷ [])))
-        (on-push {path = path} (on-same on (k .before)) s the-plane plane-in (meeting x) (subst (λ c. Witness the-plane c (meeting x)) (cell-one (h .side .here .on) on) (h .witness)) (omega (arith, k .long, node-room))))
+        (on-push (k .table) (omega (arith, k .long, node-room)) (on-same on (k .before)) s the-plane plane-in (k .is) (subst (λ c. Witness the-plane c (meeting x)) (cell-one (h .side .here .on) on) (h .witness)))
 
     pub side-in : {u v : List ℤ} {out : List ℕ} {m c : ℕ} → c ≡ getD ns (3 * r + child s) 0 → length u ≡ length first → length v ≡ length second → Room out m → SideIn xs numbers a b t path′ (depth + 1) u v out m c
     side-in {u} {v} {out} {m} {c} e eu ev w = record {
@@ -165,8 +160,8 @@ module _ {xs : List ℤ} {numbers a b : List ℕ} {t : Turn} {path₀ : List ℤ
 
     module _ {path″ : List ℤ} {out out′ : List ℕ} {m c : ℕ} {z : Answer} (e : c ≡ getD ns (3 * r + child s) 0) (d : Did xs numbers a b t path′ path″ (depth + 1) out out′ m c z) where
       -- the rows of the path before this one are still as they were
-      pub side-kept : (i : ℕ) → i < depth * 8 → getD path″ i (pos 0) ≡ getD path₀ i (pos 0)
-      side-kept i l = d .kept i (omega (arith, l)) ∙ ap (λ p. getD p i (pos 0)) (k .table) ∙ getD-sets-before (eight-of (k .half-space) x) path (depth * 8) i l ∙ k .before i l
+      pub side-kept : (i : ℕ) → i < depth * 9 → getD path″ i (pos 0) ≡ getD path₀ i (pos 0)
+      side-kept i l = d .kept i (omega (arith, l)) ∙ pushed-before (k .table) (omega (arith, k .long, node-room)) i l ∙ k .before i l
 
       module _ (o : Operation) (j : Option Mark) (w B S : Tree) (cell : List Plane) (eo : t .op ≡ operation-code o) (ej : t .mark ≡ turn-code j) (st : StandsIn xs numbers a b (t .mark) r w) (sb : Stands xs numbers b 64 (t .root) B) (on : OnPath (In xs) path₀ depth cell) where
         abbrev q : RowAt xs numbers ns (offset (t .mark)) r w

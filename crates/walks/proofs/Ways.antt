@@ -104,7 +104,7 @@ second-alone h (aft a w) = second-alone h w
 
 pub on-inside : {xs path : List ℤ} {d : ℕ} {c : List Plane} → OnPath (In xs) path d c → (X : Point) × Inside c X
 on-inside at-box = (origin, box-origin)
-on-inside {path = path} (below {d = d} {c = c} h s g q e w) = by s
+on-inside {path = path} (below {d = d} {c = c} h s g q e w l) = by s
   where
     by : (s : Bool) → (X : Point) × Inside (half s g ∷ c) X
     by true = half-front (lawful-nonzero (q .lawful)) (record { point = witness-at path d; on = w .on; inside = w .inside })

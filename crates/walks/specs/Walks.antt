@@ -46,7 +46,7 @@ WalkedIn o B k c t s = Walked join (Ends (operate o) B k) c t s
 pub record Ground (xs : List ℤ) (path first second : List ℤ) : Type 0 where
   pub lawful : (p : Plane) → p ∈ list xs → Lawful p
   pub few : length (list xs) ≤ 128
-  pub path-room : 1024 ≤ length path
+  pub path-room : 1152 ≤ length path
   pub first-room : 675 ≤ length first
   pub second-room : 675 ≤ length second
 
@@ -112,6 +112,6 @@ pub record StepTold (xs : List ℤ) (numbers a b : List ℕ) (m : ℕ) (path : L
 -- ---- what is done
 
 pub record Did (xs : List ℤ) (numbers a b : List ℕ) (t : Turn) (path path′ : List ℤ) (depth : ℕ) (out out′ : List ℕ) (next c : ℕ) (r : answer.Walked) : Type 0 where
-  pub kept : (i : ℕ) → i < depth * 8 → getD path′ i (pos 0) ≡ getD path i (pos 0)
+  pub kept : (i : ℕ) → i < depth * 9 → getD path′ i (pos 0) ≡ getD path i (pos 0)
   pub placed : (e m : ℕ) → r ≡ answer.the-variants.Done e m → Room out m
   pub emitted : (o : Operation) (k : Option Mark) (w B s : Tree) (cell : List Plane) → t .op ≡ operation-code o → t .mark ≡ turn-code k → StandsIn xs numbers a b (t .mark) c w → Stands xs numbers b 64 (t .root) B → OnPath (In xs) path depth cell → WalkedIn o B k cell w s → Emitted (list xs) out out′ next s r

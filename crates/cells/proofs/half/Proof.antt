@@ -1,12 +1,8 @@
 -- `cells::half` meets its contract. Assumes nothing.
 use borrow.Author.Needs.{needs}
-use Rattle.sections.specs.Tables.{row}
 use Rattle.sections.proofs.Kept.{four-kept}
 use Rattle.cells.proofs.half.Statement.{statement}
 use Rattle.cells.proofs.half.Tie as tie
-
-mul-at : tie.Need-mul-at
-mul-at c = search needs
 
 mul-a : tie.Need-mul-a
 mul-a c = search needs
@@ -42,14 +38,12 @@ shared-slice-copy-out-d : tie.Need-shared-slice-copy-out-d
 shared-slice-copy-out-d c = search needs
 
 returns : tie.Need-returns
-unfolding row
 returns c = four-kept (record { sfits = c .before .before .before .a .given }) (record { sfits = c .before .before .b .given }) (record { sfits = c .before .c .given }) (record { sfits = c .d .given })
 
 pub half-spec : {M : Type 1} → statement M
 half-spec =
     tie.close
     (tie.spec
-    mul-at
     mul-a
     shared-slice-copy-out-a
     add-b

@@ -1,6 +1,7 @@
 -- `cells::side_below` meets its contract: by the sign of the sum at the witness (proofs/Sides). Assumes nothing.
 use borrow.Author.Needs.{needs}
 use mathlib.Core.Path.{ap, _∙_}
+use native.Mathlib.Omega.{arith}
 use denote.Ref.{now}
 use Rattle.planes.specs.Values.{plane}
 use Rattle.planes.specs.declared.Side.the-variants.{Front, On, Back}
@@ -28,6 +29,9 @@ enum-told c = search needs
 enum-told-2 : tie.Need-enum-told-2
 enum-told-2 c = search needs
 
+mul-half : tie.Need-mul-half
+mul-half c = let s = c .before .before .before .before .before .before .before .before .before .before .before .before .before in omega (arith, s .pre .room, s .good)
+
 half-requires : tie.Need-half-requires
 half-requires c κs = search needs
 
@@ -42,21 +46,22 @@ returns c =
     let s = c .before .before .before .before .before .before .before .before .before .before .before .before .before in
     let w = c .before .before .before .before .before .before .before .before .before .before .before .before .witness in
     let v = c .before .before .before .value in
-    side-said (plane (s .args .p)) (witness-at (now (s .args .path)) (s .args .i)) (s .pre .sizes) (w .result) (w .ensures) (v .ok) (v .ensures) (c .before .before .sign .ensures) (row (now (s .args .path)) 8 (s .args .i)) Front (c .enum-told .given .1)
+    side-said (plane (s .args .p)) (witness-at (now (s .args .path)) (s .args .i)) (s .pre .sizes) (w .result) (w .ensures) (v .ok) (v .ensures) (c .before .before .sign .ensures) (row (now (s .args .path)) 9 (s .args .i)) Front (c .enum-told .given .1)
 
 returns-2 : tie.Need-returns-2
+unfolding row
 returns-2 c =
     let s = c .before .before .before .before .before .before .before .before .before .before .before .before .before .before .before in
     let w = c .before .before .before .before .before .before .before .before .before .before .before .before .before .before .witness in
     let v = c .before .before .before .before .before .value in
-    c .own .ensures ∙ ap (own-side (plane (s .args .p))) (c .before .half .ensures) ∙ side-said (plane (s .args .p)) (witness-at (now (s .args .path)) (s .args .i)) (s .pre .sizes) (w .result) (w .ensures) (v .ok) (v .ensures) (c .before .before .before .before .sign .ensures) (row (now (s .args .path)) 8 (s .args .i)) On (c .before .before .enum-told2 .given .1)
+    c .own .ensures ∙ ap (own-side (plane (s .args .p))) (c .before .half .ensures) ∙ side-said (plane (s .args .p)) (witness-at (now (s .args .path)) (s .args .i)) (s .pre .sizes) (w .result) (w .ensures) (v .ok) (v .ensures) (c .before .before .before .before .sign .ensures) (row (now (s .args .path)) 9 (s .args .i)) On (c .before .before .enum-told2 .given .1)
 
 returns-3 : tie.Need-returns-3
 returns-3 c =
     let s = c .before .before .before .before .before .before .before .before .before .before .before .before .before in
     let w = c .before .before .before .before .before .before .before .before .before .before .before .before .witness in
     let v = c .before .before .before .value in
-    side-said (plane (s .args .p)) (witness-at (now (s .args .path)) (s .args .i)) (s .pre .sizes) (w .result) (w .ensures) (v .ok) (v .ensures) (c .before .before .sign .ensures) (row (now (s .args .path)) 8 (s .args .i)) Back (c .enum-told3 .given .1)
+    side-said (plane (s .args .p)) (witness-at (now (s .args .path)) (s .args .i)) (s .pre .sizes) (w .result) (w .ensures) (v .ok) (v .ensures) (c .before .before .sign .ensures) (row (now (s .args .path)) 9 (s .args .i)) Back (c .enum-told3 .given .1)
 
 pub side-below-spec : {M : Type 1} → statement M
 side-below-spec =
@@ -67,6 +72,7 @@ side-below-spec =
     sign-requires
     enum-told
     enum-told-2
+    mul-half
     half-requires
     own-requires
     enum-told-3

@@ -1,62 +1,111 @@
--- `sections::cut` meets its contract. Assumes nothing.
+-- `sections::cut` meets its contract. The loop has the polygon of as many clips as it counts (proofs/Cuts). Assumes nothing.
 use borrow.Author.Needs.{needs}
-use Prim.Native.Nat.{_+_}
+use mathlib.Core.Path.{_≡_, refl, subst, _∙_}
+use Prim.Native.Nat.{_+_, _-_, _≤_}
 use native.Mathlib.Omega.{arith}
+use lib.ListN.{length}
 use denote.Ref.{now}
 use Rattle.planes.specs.Values.{plane}
-use Rattle.sections.specs.Tables.{look, rows-down}
-use Rattle.sections.proofs.Told.{region-path, end-nothing, end-added, end-witness, missed}
+use Rattle.sections.specs.Values.{way-of}
+use Rattle.sections.proofs.Loops.{start-corners}
+use Rattle.sections.proofs.Sections.{way-in, opened-start}
+use Rattle.sections.proofs.Cuts.{Cutting, cutting-first, cutting-end, cutting-nothing, cutting-added, cutting-rows, cutting-told, cutting-at, cutting-clip, cutting-more}
 use Rattle.sections.proofs.cut.Statement.{statement}
 use Rattle.sections.proofs.cut.Tie as tie
-use Rattle.sections.proofs.cut.Reads as reads
-use Rattle.sections.proofs.cut.Lts as lts
-use Rattle.sections.proofs.clip_back.Reads as clip-back-reads
-use Rattle.sections.proofs.start.opened.Reads as opened-reads
-use Rattle.sections.proofs.table.added.Reads as added-reads
 
-opened-requires : tie.Need-opened-requires
-opened-requires c κs = let s = c .before .before in record { support = s .pre .support; normal = s .pre .normal; room = s .pre .first-room; out-room = s .pre .second-room }
+abbrev Inv-loop : tie.InvT-loop
+Inv-loop s path depth first₀ second₀ w n₀ end counter₀ first second n counter = (counter ≤ depth + 3) × (length first ≡ length first₀) × (length second ≡ length second₀) × Cutting (plane s) path depth first n counter
 
-clip-back-requires : tie.Need-clip-back-requires
-clip-back-requires c κs =
-    let s = c .before .before .before .before .before .before .before in
-    let o = c .before .before .before .before .opened in
-    record { region = region-path (plane (s .args .s)) (now (s .args .path)) (s .args .depth) (now (s .args .first)) (now (s .args .second)) (s .pre); polygon = o .ensures; room = omega (arith, s .pre .first-room, o .kept); out-room = omega (arith, s .pre .second-room, o .kept) }
+abbrev μ-loop : tie.MeasureT-loop
+μ-loop s path depth first₀ second₀ w n₀ end counter₀ first second n counter = depth + 3 - counter
 
-same-length : tie.Need-same-length
+way-requires : tie.Need-way-requires Inv-loop μ-loop
+way-requires c κs = search needs
+
+begin-requires : tie.Need-begin-requires Inv-loop μ-loop
+begin-requires c κs = let s = (c .before .before) in (s .pre .support, (way-in (plane (s .args .s)) (now (s .args .path)) 9 (s .pre .support) (s .pre .normal) (c .before .way .result) (c .before .way .ensures)), omega (arith, s .pre .first-room))
+
+add-end : tie.Need-add-end Inv-loop μ-loop
+add-end c = omega (arith, c .before .before .before .before .pre .few)
+
+loop-holds : tie.Need-loop-holds Inv-loop μ-loop
+loop-holds c = let s = (c .before .before .before .before) in let b = c .before .begin in (omega arith, refl, refl, cutting-first (s .pre) (b .last .1 .1 .0) (opened-start (plane (s .args .s)) (now (s .args .path)) 9 (s .pre .support) (s .pre .normal) (c .before .before .before .way .result) (c .before .before .before .way .ensures) (b .last .1 .1 .0) (omega (arith, s .pre .first-room, b .kept)) (b .ensures ∙ start-corners (plane (s .args .s)) (now (s .args .path)) 9 (way-of (c .before .before .before .way .result)))))
+
+same-length : tie.Need-same-length Inv-loop μ-loop
 same-length c = search needs
 
-same-length-2 : tie.Need-same-length-2
+same-length-2 : tie.Need-same-length-2 Inv-loop μ-loop
 same-length-2 c = search needs
 
-returns : tie.Need-returns
-returns c =
-    let s = c .before .before .before .before .before .before .before .before .before .before .before in
-    let k = c .before .before .before .clip-back in
-    missed (plane (s .args .s)) _ (end-nothing (plane (s .args .s)) (look (now (s .args .path)) 8) (6 + s .args .depth) (rows-down (now (s .args .path)) 8 (s .args .depth)) (k .last .1 .1 .1 .0) (k .result) (k .ensures) (c .if1 .taken))
+returns : tie.Need-returns Inv-loop μ-loop
+returns c = let s = (c .before .before .before .before .before .before .before) in let q = c .before .before .loop in cutting-nothing (s .pre) (q .inv .3) (c .if1 .taken)
 
-added-requires : tie.Need-added-requires
-added-requires c κs = let s = c .before .before .before .before .before .before .before .before .before .before .before .before in let k = c .before .before .before .before .clip-back in end-added (plane (s .args .s)) (now (s .args .path)) 8 (6 + s .args .depth) (rows-down (now (s .args .path)) 8 (s .args .depth)) (region-path (plane (s .args .s)) (now (s .args .path)) (s .args .depth) (now (s .args .first)) (now (s .args .second)) (s .pre)) (k .last .1 .1 .1 .0) (k .result) (k .ensures) (c .before .if1 .left)
+added-requires : tie.Need-added-requires Inv-loop μ-loop
+added-requires c κs = let s = (c .before .before .before .before .before .before .before .before) in let q = c .before .before .before .loop in cutting-added (s .pre) (q .inv .3) (c .before .if1 .left)
 
-same-length-3 : tie.Need-same-length-3
+stopped-requires : tie.Need-stopped-requires Inv-loop μ-loop
+stopped-requires c κs = let s = (c .before .before .before .before .before .before .before .before .before .before .before .before .before) in let q = c .before .before .before .before .before .before .before .before .loop in let l = (way-in (plane (s .args .s)) (now (s .args .path)) 9 (s .pre .support) (s .pre .normal) (c .before .before .before .before .before .before .before .before .before .before .before .before .way .result) (c .before .before .before .before .before .before .before .before .before .before .before .before .way .ensures)) in (omega (arith, l), cutting-rows (s .pre) (q .inv .3) (c .before .before .before .before .before .before .if1 .left) (c .before .before .before .before .added .ensures))
+
+enum-known-k : tie.Need-enum-known-k Inv-loop μ-loop
+enum-known-k c = search needs
+
+enum-told : tie.Need-enum-told Inv-loop μ-loop
+enum-told c = search needs
+
+same-length-3 : tie.Need-same-length-3 Inv-loop μ-loop
 same-length-3 c = search needs
 
-same-length-4 : tie.Need-same-length-4
+same-length-4 : tie.Need-same-length-4 Inv-loop μ-loop
 same-length-4 c = search needs
 
-returns-2 : tie.Need-returns-2
-returns-2 c = let s = c .before .before .before .before .before .before .before .before .before .before .before .before .before in let k = c .before .before .before .before .before .clip-back in end-witness (plane (s .args .s)) (now (s .args .path)) 8 (6 + s .args .depth) (rows-down (now (s .args .path)) 8 (s .args .depth)) (region-path (plane (s .args .s)) (now (s .args .path)) (s .args .depth) (now (s .args .first)) (now (s .args .second)) (s .pre)) (k .last .1 .1 .1 .0) (k .result) (k .ensures) (c .before .before .if1 .left) (c .added .result) (c .added .ensures)
+returns-2 : tie.Need-returns-2 Inv-loop μ-loop
+returns-2 c = let s = (c .before .before .before .before .before .before .before .before .before .before .before .before .before .before .before .before) in let q = c .before .before .before .before .before .before .before .before .before .before .before .loop in cutting-at (s .pre) (q .inv .3) (c .before .before .before .before .before .before .before .before .before .if1 .left) (c .before .before .before .before .before .before .before .added .ensures) ((cutting-told (s .pre) (q .inv .3) (c .before .before .before .before .before .before .before .before .before .if1 .left) (c .before .before .before .before .before .before .before .added .ensures) (c .before .before .before .before .before .before .before .before .before .before .before .before .before .before .before .way .result) (c .before .before .before .before .before .before .before .before .before .before .before .before .before .before .before .way .ensures) (c .before .before .stopped .ensures)) .none (c .enum-told .given .1))
+
+clip-on-requires : tie.Need-clip-on-requires Inv-loop μ-loop
+clip-on-requires c κs = let s = (c .before .before .before .before .before .before .before .before .before .before .before .before .before .before .before .before .before .before .before) in let q = c .before .before .before .before .before .before .before .before .before .before .before .before .before .before .loop in cutting-clip (s .pre) (q .inv .3) (c .before .before .before .before .before .before .before .before .before .before .before .before .if1 .left) (c .before .before .before .before .before .before .before .before .before .before .added .ensures) ((cutting-told (s .pre) (q .inv .3) (c .before .before .before .before .before .before .before .before .before .before .before .before .if1 .left) (c .before .before .before .before .before .before .before .before .before .before .added .ensures) (c .before .before .before .before .before .before .before .before .before .before .before .before .before .before .before .before .before .before .way .result) (c .before .before .before .before .before .before .before .before .before .before .before .before .before .before .before .before .before .before .way .ensures) (c .before .before .before .before .before .stopped .ensures)) .by (c .before .before .before .k .given .0 .0) (c .before .before .before .k .given .1)) (q .second) (omega (arith, s .pre .first-room, c .before .before .before .before .before .before .before .before .before .before .before .before .before .before .before .before .begin .kept, q .inv .1)) (omega (arith, s .pre .second-room, q .inv .2))
+
+add-counter : tie.Need-add-counter Inv-loop μ-loop
+add-counter c = omega (arith, c .before .before .before .before .before .before .before .before .before .before .before .before .before .before .before .before .before .before .before .before .before .before .pre .few, c .before .before .before .before .before .before .before .before .before .before .before .before .before .before .before .before .loop-test .taken)
+
+loop-less : tie.Need-loop-less Inv-loop μ-loop
+loop-less c = omega (arith, c .before .before .before .before .before .before .before .before .before .before .before .before .before .before .before .before .loop-test .taken)
+
+loop-again : tie.Need-loop-again Inv-loop μ-loop
+loop-again c = let s = (c .before .before .before .before .before .before .before .before .before .before .before .before .before .before .before .before .before .before .before .before .before .before) in let q = c .before .before .before .before .before .before .before .before .before .before .before .before .before .before .before .before .before .loop in let d = c .before .before .clip-on in (omega (arith, c .before .before .before .before .before .before .before .before .before .before .before .before .before .before .before .before .loop-test .taken), d .kept .1 .1 .1 .1 .0 ∙ q .inv .1, d .kept .1 .1 .1 .1 .1 .1 .0 ∙ q .inv .2, cutting-more (s .pre) (q .inv .3) (c .before .before .before .before .before .before .before .before .before .before .before .before .before .before .before .if1 .left) (c .before .before .before .before .before .before .before .before .before .before .before .before .before .added .ensures) ((cutting-told (s .pre) (q .inv .3) (c .before .before .before .before .before .before .before .before .before .before .before .before .before .before .before .if1 .left) (c .before .before .before .before .before .before .before .before .before .before .before .before .before .added .ensures) (c .before .before .before .before .before .before .before .before .before .before .before .before .before .before .before .before .before .before .before .before .before .way .result) (c .before .before .before .before .before .before .before .before .before .before .before .before .before .before .before .before .before .before .before .before .before .way .ensures) (c .before .before .before .before .before .before .before .before .stopped .ensures)) .by (c .before .before .before .before .before .before .k .given .0 .0) (c .before .before .before .before .before .before .k .given .1)) (q .second) (omega (arith, s .pre .first-room, c .before .before .before .before .before .before .before .before .before .before .before .before .before .before .before .before .before .before .before .begin .kept, q .inv .1)) (omega (arith, s .pre .second-room, q .inv .2)) (d .ensures))
+
+same-length-5 : tie.Need-same-length-5 Inv-loop μ-loop
+same-length-5 c = search needs
+
+same-length-6 : tie.Need-same-length-6 Inv-loop μ-loop
+same-length-6 c = search needs
+
+returns-3 : tie.Need-returns-3 Inv-loop μ-loop
+returns-3 c = let s = (c .before .before .before .before .before .before) in let q = c .before .loop in absurd (cutting-end (s .pre) (subst (Cutting (plane (s .args .s)) (now (s .args .path)) (s .args .depth) (q .first) (q .n)) (omega (arith, c .loop-test .left, q .inv .0)) (q .inv .3)))
 
 pub cut-spec : {M : Type 1} → statement M
 cut-spec =
     tie.close
     (tie.spec
-    opened-requires
-    clip-back-requires
+    Inv-loop
+    μ-loop
+    way-requires
+    begin-requires
+    add-end
+    loop-holds
     same-length
     same-length-2
     returns
     added-requires
+    stopped-requires
+    enum-known-k
+    enum-told
     same-length-3
     same-length-4
-    returns-2)
+    returns-2
+    clip-on-requires
+    add-counter
+    loop-less
+    loop-again
+    same-length-5
+    same-length-6
+    returns-3)

@@ -10,7 +10,7 @@ use borrow.Fn.Kinds.{In}
 use borrow.Fn.PlainCycle.{Measures, is, falls, and}
 use Rattle.scope.specs.Planes.{flip}
 use Rattle.walks.proofs.Emits.{room-same}
-use Rattle.splits.proofs.Halves.{listed-there, plane-ranged, halves-deep, halves-room, Pushed, half-in, half-kept, halves-front, halves-back, halves-put}
+use Rattle.splits.proofs.Halves.{listed-there, plane-ranged, halves-deep, push-asked, Pushed, half-in, half-kept, halves-front, halves-back, halves-put}
 use Rattle.splits.proofs.Forms.{kind-in, form-uniform, scan-in, form-nothing, later, halves-in, form-split}
 use Rattle.splits.proofs.form_cell.Reads as form-cell
 use Rattle.splits.proofs.form_cell.Kinds as form-cell-kinds
@@ -136,7 +136,7 @@ form-halves-add-rest : (t : ℕ) → form-halves-lts.Need-add-rest (halves-calls
 form-halves-add-rest t c = search needs
 
 form-halves-push-requires : (t : ℕ) → form-halves-lts.Need-push-requires (halves-calls t) (form-halves-at t) form-halves.Post
-form-halves-push-requires t c κs = halves-room (c .before .before .before .before .before .before .before .before .pre .1)
+form-halves-push-requires t c κs = push-asked (c .before .before .before .before .before .before .before .before .pre .1) (λ i l. refl) refl
 
 -- the front half-space stands on the path
 pushed-front : (t : ℕ) (c : form-halves-lts.After-push (halves-calls t) (form-halves-at t) form-halves.Post) → Pushed (c .before .before .before .before .before .before .before .before .before .pre .1) true (now (c .before .before .before .before .before .before .before .before .before .args .path)) (c .push .last .0)
@@ -173,7 +173,7 @@ form-halves-opposite-requires : (t : ℕ) → form-halves-lts.Need-opposite-requ
 form-halves-opposite-requires t c κs = plane-ranged (c .before .before .before .before .before .before .before .before .before .before .before .before .before .before .before .before .before .before .before .before .before .before .before .before .pre .1) (c .before .before .before .before .before .before .before .before .before .before .before .before .before .before .before .before .before .row .ensures)
 
 form-halves-push-requires-2 : (t : ℕ) → form-halves-lts.Need-push-requires-2 (halves-calls t) (form-halves-at t) form-halves.Post
-form-halves-push-requires-2 t c κs = omega (arith, halves-room (c .before .before .before .before .before .before .before .before .before .before .before .before .before .before .before .before .before .before .before .before .before .before .before .before .before .pre .1), c .before .before .before .before .before .before .before .before .before .before .form-cell .kept .1 .1 .1 .1 .1 .1 .0, c .before .before .before .before .before .before .before .before .before .before .before .before .before .before .before .before .push .kept .0)
+form-halves-push-requires-2 t c κs = push-asked (c .before .before .before .before .before .before .before .before .before .before .before .before .before .before .before .before .before .before .before .before .before .before .before .before .before .pre .1) (half-kept (c .before .before .before .before .before .before .before .before .before .before .before .before .before .before .before .before .before .before .before .before .before .before .before .before .before .pre .1) true (pushed-front t (c .before .before .before .before .before .before .before .before .before .before .before .before .before .before .before .before)) (c .before .before .before .before .before .before .before .before .before .before .form-cell .ensures)) (c .before .before .before .before .before .before .before .before .before .before .form-cell .kept .1 .1 .1 .1 .1 .1 .0 ∙ c .before .before .before .before .before .before .before .before .before .before .before .before .before .before .before .before .push .kept .0)
 
 -- and then the back one
 pushed-back : (t : ℕ) (c : form-halves-lts.After-push2 (halves-calls t) (form-halves-at t) form-halves.Post) → Pushed (c .before .before .before .before .before .before .before .before .before .before .before .before .before .before .before .before .before .before .before .before .before .before .before .before .before .before .pre .1) false (c .before .before .before .before .before .before .before .before .before .before .before .form-cell .last .1 .1 .1 .1 .1 .1 .0) (c .push2 .last .0)

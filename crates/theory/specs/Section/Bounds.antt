@@ -123,6 +123,9 @@ witness-sized i (a and none) = sized-up i tt tt
 witness-sized i (a and b and none) = sized-up i tt tt
 witness-sized i (_and_ a (_and_ b (_and_ {x = c} {xs = bs} j e))) = added-sized (meet-sized i (each-final c bs (j and e)) a) (meet-sized i a b) (meet-sized i b j)
 
+pub bounds-witness : (s : Plane) (bs : List Plane) → T (in-range s) → ((b : Plane) → b ∈ bs → T (in-range b)) → Sized (witness s bs) 1800000000000000 18000000000
+bounds-witness s bs i j = witness-sized (plane-sized s i) (in-each bs (λ b m. plane-sized b (j b m)))
+
 module _ (s : Plane) (hs : List Plane) (i : T (in-range s)) (j : (h : Plane) → h ∈ hs → T (in-range h)) where
   bounds-in-range : (b : Plane) → b ∈ section s hs → T (in-range b)
   unfolding in-range
@@ -133,7 +136,7 @@ module _ (s : Plane) (hs : List Plane) (i : T (in-range s)) (j : (h : Plane) →
       go (inr m) = j b m
 
   pub witness-bounds : Sized (witness s (section s hs)) 1800000000000000 18000000000
-  witness-bounds = witness-sized (plane-sized s i) (in-each (section s hs) (λ b m. plane-sized b (bounds-in-range b m)))
+  witness-bounds = bounds-witness s (section s hs) i bounds-in-range
 
   pub witness-side-bounds : (h : Plane) → T (in-range h) → Within (at h (witness s (section s hs))) 7200000000000000000
   unfolding at

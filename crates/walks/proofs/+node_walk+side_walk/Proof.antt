@@ -10,7 +10,7 @@ use Rattle.tables.specs.Rows.{plane-at}
 use Rattle.walks.proofs.Rank.{rank, rank-row, rank-below, rank-under, base, base-a, base-b}
 use Rattle.walks.proofs.Emits.{room-same}
 use Rattle.walks.proofs.Ways.{plane-of-in, field-in}
-use Rattle.walks.proofs.Cycle.{node-row, node-deep, node-room, front-falls, back-falls, plane-ranged, Pushed, side-in, side-kept, node-front, node-back, node-closed, step-in, cut-in, code-in, side-code, end-in, side-mark, in-a, below-in, root-low, side-b}
+use Rattle.walks.proofs.Cycle.{node-row, node-deep, push-asked, front-falls, back-falls, plane-ranged, Pushed, side-in, side-kept, node-front, node-back, node-closed, step-in, cut-in, code-in, side-code, end-in, side-mark, in-a, below-in, root-low, side-b}
 use Prim.Native.Nat.{ℕ, _+_, _*_, _<_}
 use borrow.Fn.Kinds.{In}
 use borrow.Fn.PlainCycle.{Measures, is, falls, and}
@@ -70,7 +70,7 @@ node-walk-field-requires : (t : ℕ) → node-walk-lts.Need-field-requires (node
 node-walk-field-requires t c κs = field-in (node-row (c .before .before .before .before .before .before .pre .1) .row) 1 (lit< tt)
 
 node-walk-push-requires : (t : ℕ) → node-walk-lts.Need-push-requires (node-calls t) (node-walk-at t) node-walk.Post
-node-walk-push-requires t c κs = node-room (c .before .before .before .before .before .before .before .before .pre .1)
+node-walk-push-requires t c κs = push-asked (c .before .before .before .before .before .before .before .before .pre .1) (λ i l. refl) refl
 
 node-walk-add-side-walk : (t : ℕ) → node-walk-lts.Need-add-side-walk (node-calls t) (node-walk-at t) node-walk.Post
 node-walk-add-side-walk t c = record { fits = omega (arith, node-deep (c .before .before .before .before .before .before .before .before .before .before .before .pre .1)) }
@@ -113,7 +113,7 @@ node-walk-opposite-requires : (t : ℕ) → node-walk-lts.Need-opposite-requires
 node-walk-opposite-requires t c κs = plane-ranged (c .before .before .before .before .before .before .before .before .before .before .before .before .before .before .before .before .before .before .before .before .before .before .before .before .before .pre .1) (c .before .before .before .before .before .before .before .before .before .before .before .before .before .before .before .before .before .before .before .row .ensures ∙ ap (plane-at (now (c .before .before .before .before .before .before .before .before .before .before .before .before .before .before .before .before .before .before .before .before .before .before .before .before .before .args .planes))) (c .before .before .before .before .before .before .before .before .before .before .before .before .before .before .before .before .before .before .before .before .number-of .ensures))
 
 node-walk-push-requires-2 : (t : ℕ) → node-walk-lts.Need-push-requires-2 (node-calls t) (node-walk-at t) node-walk.Post
-node-walk-push-requires-2 t c κs = omega (arith, node-room (c .before .before .before .before .before .before .before .before .before .before .before .before .before .before .before .before .before .before .before .before .before .before .before .before .before .before .pre .1), c .before .before .before .before .before .before .before .before .before .before .before .side-walk .kept .1 .1 .1 .1 .1 .0, c .before .before .before .before .before .before .before .before .before .before .before .before .before .before .before .before .before .push .kept .0)
+node-walk-push-requires-2 t c κs = push-asked (c .before .before .before .before .before .before .before .before .before .before .before .before .before .before .before .before .before .before .before .before .before .before .before .before .before .before .pre .1) (side-kept (c .before .before .before .before .before .before .before .before .before .before .before .before .before .before .before .before .before .before .before .before .before .before .before .before .before .before .pre .1) true (pushed-front t (c .before .before .before .before .before .before .before .before .before .before .before .before .before .before .before .before .before)) (c .before .before .before .before .before .before .before .before .before .before .before .before .before .before .before .before .before .before .before .field .ensures) (c .before .before .before .before .before .before .before .before .before .before .before .side-walk .ensures)) (c .before .before .before .before .before .before .before .before .before .before .before .side-walk .kept .1 .1 .1 .1 .1 .0 ∙ c .before .before .before .before .before .before .before .before .before .before .before .before .before .before .before .before .before .push .kept .0)
 
 node-walk-add-side-walk-2 : (t : ℕ) → node-walk-lts.Need-add-side-walk-2 (node-calls t) (node-walk-at t) node-walk.Post
 node-walk-add-side-walk-2 t c = record { fits = omega (arith, node-deep (c .before .before .before .before .before .before .before .before .before .before .before .before .before .before .before .before .before .before .before .before .before .before .before .before .before .before .before .before .before .pre .1)) }

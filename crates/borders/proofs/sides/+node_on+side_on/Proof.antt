@@ -11,9 +11,9 @@ use Rattle.walks.proofs.Rank.{rank, rank-row, rank-below, rank-under}
 use Rattle.walks.proofs.Ways.{plane-of-in, field-in}
 use Rattle.walks.proofs.Cycle.{front-falls, back-falls}
 use Rattle.borders.specs.Sides.{plane-of}
-use Rattle.borders.proofs.Paths.{Laid, laid, laid-first}
+use Rattle.borders.proofs.Paths.{Laid, same-rows, laid, laid-first}
 use Rattle.borders.proofs.Turns.{left}
-use Rattle.borders.proofs.Cycle.{node-row, node-deep, node-room, plane-ranged, side-in, side-kept, node-front, node-back, pass-in, both-in, side-both, code-falls, code-in, side-code, follow-in, side-end, walk-in, next-falls, side-walk}
+use Rattle.borders.proofs.Cycle.{node-row, node-deep, node-room, node-asked, plane-ranged, side-in, side-kept, node-front, node-back, pass-in, both-in, side-both, code-falls, code-in, side-code, follow-in, side-end, walk-in, next-falls, side-walk}
 use Prim.Native.Nat.{ℕ, _+_, _*_, _<_}
 use borrow.Fn.Kinds.{In}
 use borrow.Fn.PlainCycle.{Measures, is, falls, and}
@@ -70,7 +70,7 @@ node-on-field-requires : (t : ℕ) → node-on-lts.Need-field-requires (node-cal
 node-on-field-requires t c κs = field-in (node-row (c .before .before .before .before .before .pre .1) .row) _ (lit< tt)
 
 node-on-keep-requires : (t : ℕ) → node-on-lts.Need-keep-requires (node-calls t) (node-on-at t) node-on.Post
-node-on-keep-requires t c κs = node-room (c .before .before .before .before .before .before .before .pre .1)
+node-on-keep-requires t c κs = node-asked (c .before .before .before .before .before .before .before .pre .1) same-rows refl
 
 node-on-add-side-on : (t : ℕ) → node-on-lts.Need-add-side-on (node-calls t) (node-on-at t) node-on.Post
 node-on-add-side-on t c = record { fits = omega (arith, node-deep (c .before .before .before .before .before .before .before .before .before .before .pre .1)) }
@@ -110,7 +110,7 @@ node-on-opposite-requires : (t : ℕ) → node-on-lts.Need-opposite-requires (no
 node-on-opposite-requires t c κs = plane-ranged (c .before .before .before .before .before .before .before .before .before .before .before .before .before .before .before .before .before .before .before .before .pre .1) (c .before .before .before .before .before .before .before .before .before .before .before .before .before .before .before .row .ensures ∙ ap (plane-at (now (c .before .before .before .before .before .before .before .before .before .before .before .before .before .before .before .before .before .before .before .before .args .planes))) (c .before .before .before .before .before .before .before .before .before .before .before .before .before .before .before .before .number-of .ensures))
 
 node-on-keep-requires-2 : (t : ℕ) → node-on-lts.Need-keep-requires-2 (node-calls t) (node-on-at t) node-on.Post
-node-on-keep-requires-2 t c κs = omega (arith, node-room (c .before .before .before .before .before .before .before .before .before .before .before .before .before .before .before .before .before .before .before .before .before .pre .1), c .before .before .before .before .before .before .before .before .side-on .kept .1 .1 .1 .1 .1 .0, c .before .before .before .before .before .before .before .before .before .before .before .before .before .keep .kept .0)
+node-on-keep-requires-2 t c κs = node-asked (c .before .before .before .before .before .before .before .before .before .before .before .before .before .before .before .before .before .before .before .before .before .pre .1) (side-kept (c .before .before .before .before .before .before .before .before .before .before .before .before .before .before .before .before .before .before .before .before .before .pre .1) true (pushed-front t (c .before .before .before .before .before .before .before .before .before .before .before .before .before)) (c .before .before .before .before .before .before .before .before .before .before .before .before .before .before .before .field .ensures) (c .before .before .before .before .before .before .before .before .side-on .ensures)) (c .before .before .before .before .before .before .before .before .side-on .kept .1 .1 .1 .1 .1 .0 ∙ c .before .before .before .before .before .before .before .before .before .before .before .before .before .keep .kept .0)
 
 node-on-add-side-on-2 : (t : ℕ) → node-on-lts.Need-add-side-on-2 (node-calls t) (node-on-at t) node-on.Post
 node-on-add-side-on-2 t c = record { fits = omega (arith, node-deep (c .before .before .before .before .before .before .before .before .before .before .before .before .before .before .before .before .before .before .before .before .before .before .before .before .pre .1)) }

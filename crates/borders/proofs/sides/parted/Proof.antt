@@ -8,13 +8,13 @@ use Rattle.planes.specs.Values.{plane}
 use Rattle.planes.specs.Bounds.{in-range-in}
 use Rattle.cells.proofs.Paths.{half-ranged}
 use Rattle.borders.specs.Sides.{in-front, both}
-use Rattle.borders.proofs.Paths.{laid, laid-first}
+use Rattle.borders.proofs.Paths.{keep-asked, same-rows, laid, laid-first}
 use Rattle.borders.proofs.Parts.{cut-in, half-said, told-behind}
 use Rattle.borders.proofs.sides.parted.Statement.{statement}
 use Rattle.borders.proofs.sides.parted.Tie as tie
 
 keep-requires : tie.Need-keep-requires
-keep-requires c κs = search needs
+keep-requires c κs = let s = (c .before) in keep-asked same-rows refl (s .pre .deep) (s .pre .links) (s .pre .room)
 
 add-cut : tie.Need-add-cut
 add-cut c = search needs
@@ -44,7 +44,7 @@ opposite-requires : tie.Need-opposite-requires
 opposite-requires c κs = in-range-in (is-true (in-range (plane (c .before .before .before .before .before .before .before .before .before .before .before .before .args .q))) (c .before .before .before .before .before .before .before .before .before .before .before .before .pre .other-lawful .range))
 
 keep-requires-2 : tie.Need-keep-requires-2
-keep-requires-2 c κs = search needs
+keep-requires-2 c κs = let s = (c .before .before .before .before .before .before .before .before .before .before .before .before .before) in keep-asked ((laid-first {h = s .args .q} (c .before .before .before .before .before .before .before .before .before .before .before .keep .ensures) (c .before .before .before .before .before .before .before .before .before .before .before .keep .kept .0) refl (s .pre .room)) .before) (c .before .before .before .before .before .before .before .before .before .before .before .keep .kept .0) (s .pre .deep) (s .pre .links) (s .pre .room)
 
 add-cut-2 : tie.Need-add-cut-2
 add-cut-2 c = search needs
