@@ -17,8 +17,8 @@ use Rattle.theory.specs.Cells.Box.{cons}
 use Rattle.theory.specs.Cells.Move.{flip-front}
 use Rattle.theory.specs.Cells.Reached.{lawful-normal}
 use Rattle.theory.specs.Forms.OnPlane.{strict-back}
-use Rattle.sections.specs.declared.Witnessed.{Witnessed}
-use Rattle.sections.specs.Paths.{CutIn, CutTold}
+use Rattle.cuts.specs.declared.Witnessed.{Witnessed}
+use Rattle.cuts.specs.Paths.{CutIn, CutTold}
 use Rattle.borders.specs.declared.Parted.the-variants as parted
 use Rattle.borders.specs.Sides.{cell-at, Kept, PartsIn, behind, PartsTold}
 use Rattle.borders.proofs.Paths.{Laid, laid-cell, laid-ranged, laid-links, CutSaid, cut-told}

@@ -24,10 +24,10 @@ use Rattle.theory.specs.Forms.OnPlane.{four-boundary, boundary-four}
 use Rattle.planes.specs.Values.{plane}
 use Rattle.planes.specs.declared.Plane as struct
 use Rattle.planes.specs.declared.Meeting.{Meeting}
-use Rattle.sections.specs.declared.Witnessed.{Witnessed}
-use Rattle.sections.specs.declared.Witnessed.the-variants.{At, Nothing}
-use Rattle.sections.specs.Tables.{rows-down}
-use Rattle.sections.specs.Paths.{CutIn, CutTold}
+use Rattle.cuts.specs.declared.Witnessed.{Witnessed}
+use Rattle.cuts.specs.declared.Witnessed.the-variants.{At, Nothing}
+use Rattle.polygons.specs.Tables.{rows-down}
+use Rattle.cuts.specs.Paths.{CutIn, CutTold}
 use Rattle.tables.specs.Rows.{plane-at}
 use Rattle.walks.specs.Standing.{list, Stands}
 use Rattle.borders.specs.declared.Pair.{Pair}

@@ -4,8 +4,8 @@
 // `first` and `second` are room for a section.
 mod sides;
 
-use sections::Witnessed;
-use sections::cut;
+use cuts::Witnessed;
+use cuts::cut;
 use sides::FRONTS;
 use sides::side_on;
 use walks::IN_A;

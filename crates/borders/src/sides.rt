@@ -10,10 +10,10 @@ use crate::Passed;
 use crate::Stage;
 use cells::opposite;
 use cells::push;
+use cuts::Witnessed;
+use cuts::cut;
 use planes::Meeting;
 use planes::Plane;
-use sections::Witnessed;
-use sections::cut;
 use tables::Solid;
 use walks::IN_A;
 use walks::field;
@@ -33,7 +33,7 @@ pub const FRONTS: u16 = 0;
 
 // ---- a row and the plane
 
-// Writes row `depth` of a path: a half-space, and no witness.
+// Writes row `depth` of a path: a half-space with its link, and no witness.
 fn keep(path: &mut [i64], depth: usize, h: Plane)
     requires { ⌜ PathIn (now path) depth × (depth * 9 + 9 ≤ length (now path)) ⌝ }
     ensures { λ _. ⌜ Pushed (now (path .entry)) (now (path .exit)) depth h nowhere ⌝ }

@@ -34,7 +34,7 @@ use Rattle.planes.specs.declared.Side.{Side}
 use Rattle.planes.specs.declared.Side.the-variants as side
 use Rattle.planes.proofs.Sizes.{k}
 use Rattle.planes.proofs.Laws.{wide, sum-kept-in, sum-kept}
-use Rattle.sections.specs.Tables.{row}
+use Rattle.polygons.specs.Tables.{row}
 use Rattle.cells.specs.Paths.{witness-at, own-side, by-sign, side-by, missed-by, BelowIn, MissedIn}
 use Rattle.cells.specs.declared.Classified.{Classified}
 use Rattle.cells.specs.declared.Classified.the-variants.{Front, Behind}

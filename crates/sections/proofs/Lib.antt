@@ -1,12 +1,2 @@
-pub mod Rules
-pub mod Cells
-pub mod Kept
-pub mod Sums
-pub mod Put
-pub mod Loops
-pub mod Clips
 pub mod Rows
-pub mod Sections
 pub mod Told
-pub mod Asking
-pub mod Cuts

@@ -1,32 +1,29 @@
 -- Rows of four numbers: the half-spaces that a table holds, whether they are lawful, and rows written one after the other.
 use mathlib.Core.Path.{_≡_, refl, sym, ap, _∙_}
-use mathlib.Core.Logic.{_≢_}
 use mathlib.Core.Bool.{Bool, true, false}
-use mathlib.Core.List.{List, [], _∷_, _++_, map, append-nil}
+use mathlib.Core.List.{List, [], _∷_, _++_, map}
 use mathlib.Core.Option.{Option, none, some}
-use Prim.Native.Nat.{ℕ, zero, suc, _+_, _-_, _*_, _/_, _%_, _≤_, _<_}
+use Prim.Native.Nat.{ℕ, zero, suc, _+_, _-_, _*_, _≤_, _<_}
 use native.Mathlib.Nat.{zero-add}
 use native.Mathlib.Numerals.{add-one}
 use native.Mathlib.Omega.{arith}
 use lib.IntN.{ℤ, pos}
-use lib.ListN.{length, getD, drop, replicate, length-append, length-replicate}
+use lib.ListN.{length, drop, replicate, length-replicate}
 use lib.Seq.{sets, sets-eq}
 use Rattle.whole.specs.Tests.{_and_, differ, and-true}
-use Rattle.whole.specs.Sign.{Sign, minus, nought, plus}
 use Rattle.whole.specs.Lists.{map-app, map-length}
-use Rattle.scope.specs.Planes.{Plane, Fault, in-range, lead, half-fault, half-faults}
-use Rattle.scope.specs.Answers.{no-fault, no-faults, flat-planes, quads}
-use Rattle.theory.specs.Section.{Corner, corner, index}
+use Rattle.scope.specs.Planes.{Plane, Fault, half-fault}
+use Rattle.scope.specs.Answers.{no-fault, no-faults, flat-planes}
+use Rattle.theory.specs.Section.{index}
 use Rattle.planes.specs.Values.{quad}
 use Rattle.planes.specs.Promises.{made-by}
 use Rattle.planes.specs.declared.MadePlane as MadePlane
-use Rattle.planes.specs.declared.Fault as fault
 use Rattle.sections.specs.declared.Lawful.{Lawful}
 use Rattle.sections.specs.declared.Lawful.the-variants.{Yes, No}
 use Rattle.sections.specs.Values.{lawful-is}
-use Rattle.sections.specs.Tables.{row, look, corner-at, read, indices, rows-to, rows-down}
-use Rattle.sections.proofs.Cells.{sets-append, look-row}
-use Rattle.sections.proofs.Clips.{indices-length}
+use Rattle.polygons.specs.Tables.{row, corner-at, read, indices, rows-to}
+use Rattle.polygons.proofs.Cells.{sets-append}
+use Rattle.polygons.proofs.Clips.{indices-length}
 
 -- ---- whether a half-space is lawful
 

@@ -12,7 +12,7 @@ use lib.Seq.{sets}
 use borrow.Author.Tests.{le-leb, lt-leb}
 use Rattle.whole.specs.Tests.{and-true}
 use Rattle.whole.specs.Lists.{map-length}
-use Rattle.scope.specs.Planes.{Plane, in-range, half-fault}
+use Rattle.scope.specs.Planes.{Plane, half-fault}
 use Rattle.scope.specs.Section as scope
 use Rattle.scope.specs.Answers.{Answer, given, refused, no-fault, no-faults, flat-planes, quads, quads-then, section-answer, section-by, bounds-by, left, filled}
 use Rattle.theory.specs.Section.{index}
@@ -21,14 +21,13 @@ use Rattle.planes.specs.declared.Plane as struct
 use Rattle.sections.specs.declared.Sectioned.{Sectioned}
 use Rattle.sections.specs.declared.Sectioned.the-variants.{Polygon as Bounds, Nothing, Refused}
 use Rattle.sections.specs.Values.{section-of}
-use Rattle.sections.specs.Tables.{row, look, corner-at, indices, rows-to}
-use Rattle.sections.specs.Asked.{Region, Polygon, WriteIn}
+use Rattle.polygons.specs.Tables.{row, look, corner-at, indices, rows-to}
+use Rattle.polygons.specs.Asked.{Region, Polygon, WriteIn}
 use Rattle.sections.specs.Follows.{half-in}
 use Rattle.sections.specs.Promises.{answer-to, SectionTold, Drawn}
-use Rattle.sections.proofs.Cells.{look-row, box-in}
-use Rattle.sections.proofs.Clips.{indices-length}
+use Rattle.polygons.proofs.Clips.{indices-length}
 use Rattle.sections.proofs.Rows.{lawful-support, lawful-row, flat-length, sets-zeros}
-use Rattle.sections.proofs.Sections.{polygon-nothing}
+use Rattle.polygons.proofs.Starts.{polygon-nothing, between}
 
 -- ---- rows of four numbers
 
@@ -155,13 +154,6 @@ module _ (s : struct.Plane) (halves bounds work : List ℤ) where
   }
 
 -- ---- what the loops are given
-
-pub between : (hs : List ℤ) (width rows k : ℕ) → ((i : ℕ) → i < rows → in-range (row hs width i) ≡ true) → k < 6 + rows → in-range (look hs width k) ≡ true
-between hs width rows k f l = by (6 - k) refl
-  where
-    by : (j : ℕ) → 6 - k ≡ j → in-range (look hs width k) ≡ true
-    by zero e = ap in-range (sym (look-row hs width k (omega arith))) ∙ f (k - 6) (omega arith)
-    by (suc j) e = box-in hs width k (omega arith)
 
 pub region-rows : (s : Plane) (hs : List ℤ) (rows : ℕ) → rows ≤ 128 → rows * 4 ≤ length hs → no-faults (s ∷ rows-to hs 4 rows) ≡ true → Region s hs 4 (6 + rows)
 region-rows s hs rows l m e =

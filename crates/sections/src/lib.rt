@@ -1,40 +1,25 @@
 // The section of a region by a plane, as document 01's "Section of a region by a plane" has it.
-// A polygon stands in a table, five numbers a corner: the index of the corner's bound, and the vertex x, y, z, w at which the bound's edge
-// starts. An index below 6 is a side of the box, x-, x+, y-, y+, z-, z+; the half-space of row i has the index 6 + i.
-mod clipping;
-mod codes;
-mod start;
-mod stops;
-mod table;
-
 ghost use mathlib.Core.Path.{_≡_};
 ghost use mathlib.Core.List.{_∷_, _++_, map};
 ghost use Prim.Native.Nat.{_+_, _*_, _≤_};
 ghost use lib.IntN.{pos};
 ghost use lib.ListN.{length, replicate};
 ghost use lib.Seq.{sets};
-ghost use Rattle.scope.specs.Cells.{box};
 ghost use Rattle.scope.specs.Section.{way, rest};
 ghost use Rattle.scope.specs.Planes.{half-fault};
 ghost use Rattle.scope.specs.Answers.{no-fault, no-faults, flat-planes};
 ghost use Rattle.planes.specs.Values.{plane};
 ghost use Rattle.sections.specs.Values.{lawful-is};
-ghost use Rattle.sections.specs.Tables.{look, indices, rows-to, rows-down};
-ghost use Rattle.sections.specs.Paths.{CutIn, CutTold};
-ghost use Rattle.sections.specs.Asked.{Polygon, ClipsIn, BoundedIn, WriteIn};
+ghost use Rattle.polygons.specs.Tables.{look, indices, rows-to};
+ghost use Rattle.polygons.specs.Asked.{Polygon, ClipsIn, BoundedIn, WriteIn};
 ghost use Rattle.sections.specs.Promises.{SectionTold, Drawn};
-use clipping::clip_on;
 use planes::MadePlane;
-use planes::Meeting;
 use planes::Plane;
-use start::begin;
-use start::opened;
-use start::way;
-use stops::stopped;
-use table::added;
-use table::index_at;
-use table::row;
-use table::write_row;
+use polygons::clip_on;
+use polygons::index_at;
+use polygons::opened;
+use polygons::row;
+use polygons::write_row;
 
 // ---- the kinds, and the answers
 
@@ -43,38 +28,6 @@ pub enum Sectioned {
     Polygon(usize),
     Nothing,
     Refused(u8),
-}
-
-// A point on the plane and in the region, or Nothing.
-pub enum Witnessed {
-    At(Meeting),
-    Nothing,
-}
-
-// The index of a bound that a point is not in front of, or none.
-pub enum Stopped {
-    By(usize),
-    No,
-}
-
-// What a bound puts out: nothing, the bound, or the clipping half-space and the bound.
-pub enum Signal {
-    Nothing,
-    B,
-    HB,
-}
-
-// Where the next corner is put out, and the index put out last.
-pub struct Place {
-    pub at: usize,
-    pub prev: usize,
-}
-
-// What a clip leaves: the polygon as it was, a polygon of so many corners in the second table, or nothing.
-pub enum Clipped {
-    Same,
-    Cut(usize),
-    Gone,
 }
 
 // Whether planes are in range with normals that are not zero.
@@ -197,29 +150,4 @@ pub fn section(s: Plane, halves: &[i64], bounds: &mut [i64], work: &mut [i64]) -
     let r = drawn(s, halves, bounds, work);
     zeros::clear(work);
     r
-}
-
-// ---- the half-spaces of a path
-
-// Whether the plane s cuts the cell of a path: a point on it and in the cell, or Nothing.
-// A half-space is clipped by only where it is needed: as long as the first three vertices, added, are not in front of some bound, the polygon
-// is clipped by that bound. No bound comes twice, so the last line is never reached.
-pub fn cut(s: Plane, path: &[i64], depth: usize, first: &mut [i64], second: &mut [i64]) -> Witnessed
-    requires { ⌜ CutIn (plane s) (now path) depth (now first) (now second) ⌝ }
-    ensures { λ r. ⌜ CutTold (plane s) (rows-down (now (path .entry)) 9 depth ++ box) r ⌝ }
-{
-    let w = way(s);
-    begin(s, w, first);
-    let mut n: usize = 4;
-    for _ in 0..depth + 3 {
-        if n == 0 {
-            return Witnessed::Nothing;
-        }
-        let x = added(first);
-        let Stopped::By(k) = stopped(path, depth, w / 2, x.x, x.y, x.z, x.w) else {
-            return Witnessed::At(x);
-        };
-        n = clip_on(s, path, 9, k, first, n, second);
-    }
-    Witnessed::Nothing
 }

@@ -8,12 +8,13 @@
 --     section-each      each bound is a side of the box or a half-space given
 --     section-set       whether it is Nothing depends on the set of the half-spaces, not on their order or number
 --     cuts?             whether a plane cuts a cell is decided
+--     rest-length       the remaining axis has two sides
 --     clips-none, clips-same, clips-witness, clips-enough   the same of the start clipped by any half-spaces
 -- Passed on from the files below:
 --     clip-plain        the clip without the test for a half-space coincident with the support is the same (Plain)
 --     clipTo-all        the clip by index, as a loop makes it, is the clip (Index)
 --     corners, clip-corners and what is beside them: the loop that keeps each bound's index and start vertex puts out the corners of the clip (Corners, Loop)
---     meet-bounds, det4-bounds, side-bounds, witness-bounds, witness-side-bounds   sizes, for planes in range (Bounds)
+--     meet-bounds, det4-bounds, side-bounds, witness-bounds   sizes, for planes in range (Bounds)
 -- The proof: seen along the axis of its way, the support is flat, and a half-space a line (Flat, Frames). The bounds are the lines of a convex polygon (Convex, Square); a line splits its corners into
 -- a run inside and a run not inside (Split), cuts off the second (Cut), and that is what the 27 codes put out (Emit, Polygon). So it goes on through all clips (Clips), which are by the sides of the
 -- box and the half-spaces given (Sides).
@@ -42,7 +43,7 @@ use Rattle.theory.specs.Section.Witness.{witness-of}
 unfoldable pub use Rattle.theory.specs.Section.Witness.{witness}
 pub use Rattle.theory.specs.Section.Plain.{clip-plain}
 pub use Rattle.theory.specs.Section.Index.{clipTo-all}
-pub use Rattle.theory.specs.Section.Bounds.{Sized, meet-bounds, det4-bounds, side-bounds, bounds-witness, witness-bounds, witness-side-bounds}
+pub use Rattle.theory.specs.Section.Bounds.{Sized, meet-bounds, det4-bounds, side-bounds, witness-bounds}
 unfoldable pub use Rattle.theory.specs.Section.Corners.{corners-from, corners}
 pub use Rattle.theory.specs.Section.Corners.{Corner, corner, index, vertex, corners-length, corners-index, corners-at, corners-index-at, corners-vertex-at, Upright, upright-at, upright-of}
 pub use Rattle.theory.specs.Section.Corners.{corner-bounds, corner-bounds-at, witness-corners, bound-side, clip-index, clips-app, clips-snoc, clips-nothing, each-at, at-each}

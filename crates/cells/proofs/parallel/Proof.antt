@@ -6,8 +6,8 @@ use native.Mathlib.Omega.{arith}
 use denote.Ref.{now}
 use Rattle.whole.specs.Tests.{differ}
 use Rattle.planes.specs.Values.{plane}
-use Rattle.sections.specs.Paths.{Holds}
-use Rattle.sections.proofs.Asking.{row-below, linked, link-cast, link-at, link-less}
+use Rattle.cuts.specs.Paths.{Holds}
+use Rattle.cuts.proofs.Asking.{row-below, linked, link-cast, link-at, link-less}
 use Rattle.cells.proofs.Paths.{row-at, found-row}
 use Rattle.cells.proofs.parallel.Statement.{statement}
 use Rattle.cells.proofs.parallel.Tie as tie

@@ -9,14 +9,10 @@ use Rattle.scope.specs.Planes.{half-fault}
 use Rattle.scope.specs.Answers.{no-fault, no-faults}
 use Rattle.planes.specs.Values.{plane}
 use Rattle.sections.specs.Values.{lawful-is}
-use Rattle.sections.specs.Tables.{rows-to}
+use Rattle.polygons.specs.Tables.{rows-to}
 use Rattle.sections.proofs.Rows.{said-yes, said-no, lawful-none, lawful-more, lawful-with, unlawful-support, unlawful-rows, unlawful-more}
 use Rattle.sections.proofs.all_lawful.Statement.{statement}
 use Rattle.sections.proofs.all_lawful.Tie as tie
-use Rattle.sections.proofs.all_lawful.Reads as reads
-use Rattle.sections.proofs.all_lawful.Lts as lts
-use Rattle.sections.proofs.lawful_half.Reads as lawful-half-reads
-use Rattle.sections.proofs.table.row.Reads as row-reads
 
 abbrev Inv-loop : tie.InvT-loop
 Inv-loop halves rows i₀ i = (i ≤ rows) × (no-faults (rows-to halves 4 i) ≡ true)

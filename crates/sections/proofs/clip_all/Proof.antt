@@ -8,14 +8,11 @@ use lib.ListN.{length}
 use denote.Ref.{now}
 use Rattle.scope.specs.Section.{rest, way}
 use Rattle.planes.specs.Values.{plane}
-use Rattle.sections.specs.Tables.{look, rows-to}
-use Rattle.sections.specs.Asked.{Polygon}
-use Rattle.sections.proofs.Sections.{wider, rows-none, turn-clip, turn-more, turn-gone}
+use Rattle.polygons.specs.Tables.{look, rows-to}
+use Rattle.polygons.specs.Asked.{Polygon}
+use Rattle.polygons.proofs.Starts.{wider, rows-none, turn-clip, turn-more, turn-gone}
 use Rattle.sections.proofs.clip_all.Statement.{statement}
 use Rattle.sections.proofs.clip_all.Tie as tie
-use Rattle.sections.proofs.clip_all.Reads as reads
-use Rattle.sections.proofs.clip_all.Lts as lts
-use Rattle.sections.proofs.clipping.clip_on.Reads as clip-on-reads
 
 abbrev Inv-loop : tie.InvT-loop
 Inv-loop s halves rows t₀ n out₀ m₀ i₀ t out m i =

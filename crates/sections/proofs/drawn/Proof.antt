@@ -9,16 +9,11 @@ use denote.Ref.{now}
 use Rattle.scope.specs.Section.{section}
 use Rattle.scope.specs.Answers.{flat-planes}
 use Rattle.planes.specs.Values.{plane}
-use Rattle.sections.specs.Tables.{look, rows-to}
+use Rattle.polygons.specs.Tables.{look, rows-to}
 use Rattle.sections.proofs.Rows.{said-yes, said-no}
 use Rattle.sections.proofs.Told.{answer-short, answer-odd, answer-many, answer-faulty, answer-bounds, by-nothing, by-refused, by-given, drawn-refused, drawn-nothing, drawn-bounds, region-rows, end-section, end-length, end-nothing, write-in}
 use Rattle.sections.proofs.drawn.Statement.{statement}
 use Rattle.sections.proofs.drawn.Tie as tie
-use Rattle.sections.proofs.drawn.Reads as reads
-use Rattle.sections.proofs.drawn.Lts as lts
-use Rattle.sections.proofs.all_lawful.Reads as all-lawful-reads
-use Rattle.sections.proofs.bounded.Reads as bounded-reads
-use Rattle.sections.proofs.write_bounds.Reads as write-bounds-reads
 
 returns : tie.Need-returns
 returns c = let s = c .before in drawn-refused (s .args .s) (now (s .args .halves)) (now (s .args .bounds)) (now (s .args .work)) 8 (s .pre) (answer-short (length (now (s .args .work))) (length (now (s .args .bounds))) (plane (s .args .s)) (now (s .args .halves)) (c .if1 .taken))

@@ -2,13 +2,10 @@
 use borrow.Author.Needs.{needs}
 use mathlib.Core.Path.{_≡_}
 use Rattle.planes.specs.Values.{quad, plane}
-use Rattle.sections.proofs.Kept.{k, four-kept}
+use Rattle.polygons.proofs.Kept.{k, four-kept}
 use Rattle.sections.proofs.Rows.{half-yes, half-no}
 use Rattle.sections.proofs.lawful_half.Statement.{statement}
 use Rattle.sections.proofs.lawful_half.Tie as tie
-use Rattle.sections.proofs.lawful_half.Reads as reads
-use Rattle.sections.proofs.lawful_half.Lts as lts
-use Rattle.planes.proofs.Plane.half_space.Reads as half-space-reads
 
 half-space-requires : tie.Need-half-space-requires
 half-space-requires c κs = search needs

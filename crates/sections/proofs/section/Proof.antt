@@ -4,9 +4,6 @@ use denote.Ref.{now}
 use Rattle.sections.proofs.Told.{cleared, section-told}
 use Rattle.sections.proofs.section.Statement.{statement}
 use Rattle.sections.proofs.section.Tie as tie
-use Rattle.sections.proofs.section.Reads as reads
-use Rattle.sections.proofs.section.Lts as lts
-use Rattle.sections.proofs.drawn.Reads as drawn-reads
 
 clear-requires : tie.Need-clear-requires
 clear-requires c κs = search needs

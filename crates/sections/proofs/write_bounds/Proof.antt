@@ -8,14 +8,10 @@ use lib.ListN.{length}
 use lib.Seq.{sets}
 use denote.Ref.{now}
 use Rattle.scope.specs.Answers.{flat-planes}
-use Rattle.sections.specs.Tables.{look, indices}
+use Rattle.polygons.specs.Tables.{look, indices}
 use Rattle.sections.proofs.Rows.{written-none, written-more}
 use Rattle.sections.proofs.write_bounds.Statement.{statement}
 use Rattle.sections.proofs.write_bounds.Tie as tie
-use Rattle.sections.proofs.write_bounds.Reads as reads
-use Rattle.sections.proofs.write_bounds.Lts as lts
-use Rattle.sections.proofs.table.index_at.Reads as index-at-reads
-use Rattle.sections.proofs.table.write_row.Reads as write-row-reads
 
 abbrev Inv-loop : tie.InvT-loop
 Inv-loop halves t n bounds₀ i₀ bounds i = (i ≤ n) × (length bounds ≡ length bounds₀) × (bounds ≡ sets bounds₀ 0 (flat-planes (map (look halves 4) (indices t i))))

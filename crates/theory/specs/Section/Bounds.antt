@@ -3,8 +3,7 @@
 --     meet-bounds       the point on three planes: 6·10^14 and 6·10^9
 --     det4-bounds       the 4×4 determinant: 2.4·10^18
 --     side-bounds       a plane at a point in range: 4·10^18
---     witness-bounds    the witness of a section: 1.8·10^15 and 1.8·10^10
---     witness-side-bounds   a plane at it: 7.2·10^18, below 2^63
+--     witness-bounds    the witness of bounds in range: 1.8·10^15 and 1.8·10^10
 use mathlib.Core.Logic.{_⊎_, inl, inr}
 use mathlib.Core.List.{List}
 use Prim.Native.Nat.{ℕ, _+_, _*_}
@@ -123,21 +122,5 @@ witness-sized i (a and none) = sized-up i tt tt
 witness-sized i (a and b and none) = sized-up i tt tt
 witness-sized i (_and_ a (_and_ b (_and_ {x = c} {xs = bs} j e))) = added-sized (meet-sized i (each-final c bs (j and e)) a) (meet-sized i a b) (meet-sized i b j)
 
-pub bounds-witness : (s : Plane) (bs : List Plane) → T (in-range s) → ((b : Plane) → b ∈ bs → T (in-range b)) → Sized (witness s bs) 1800000000000000 18000000000
-bounds-witness s bs i j = witness-sized (plane-sized s i) (in-each bs (λ b m. plane-sized b (j b m)))
-
-module _ (s : Plane) (hs : List Plane) (i : T (in-range s)) (j : (h : Plane) → h ∈ hs → T (in-range h)) where
-  bounds-in-range : (b : Plane) → b ∈ section s hs → T (in-range b)
-  unfolding in-range
-  bounds-in-range b m = go (in-either sides hs (given-sides (way s) hs b (section-given s hs b m)))
-    where
-      go : (b ∈ sides) ⊎ (b ∈ hs) → T (in-range b)
-      go (inl m) = each-in {Q = λ h. T (in-range h)} {ps = sides} (tt and tt and tt and tt and tt and tt and none) b m
-      go (inr m) = j b m
-
-  pub witness-bounds : Sized (witness s (section s hs)) 1800000000000000 18000000000
-  witness-bounds = bounds-witness s (section s hs) i bounds-in-range
-
-  pub witness-side-bounds : (h : Plane) → T (in-range h) → Within (at h (witness s (section s hs))) 7200000000000000000
-  unfolding at
-  witness-side-bounds h l = w-up (dot4-bounds (plane-sized h l) witness-bounds) tt
+pub witness-bounds : (s : Plane) (bs : List Plane) → T (in-range s) → ((b : Plane) → b ∈ bs → T (in-range b)) → Sized (witness s bs) 1800000000000000 18000000000
+witness-bounds s bs i j = witness-sized (plane-sized s i) (in-each bs (λ b m. plane-sized b (j b m)))

@@ -1,7 +1,6 @@
 -- What a section clips by: start and remaining planes of each way are the six sides of the box, so that it is these and the half-spaces given.
 --     sides           x-, x+, y-, y+, z-, z+
 --     given           start, remaining planes and half-spaces, in the order in which they bind
---     given-length    six, and the half-spaces
 --     given-sides     each of them is a side or a half-space
 --     inside-given, given-inside   a point strictly in the box and in each half-space is strictly inside each of them, and back if its w is positive
 --     section-given   each bound of a section is one of them
@@ -32,14 +31,6 @@ sides = x- ∷ x+ ∷ y- ∷ y+ ∷ z- ∷ z+ ∷ []
 
 abbrev pub given : Way → List Plane → List Plane
 given w hs = start w ++ (rest w ++ hs)
-
-pub given-length : (w : Way) (hs : List Plane) → length (given w hs) ≡ 6 + length hs
-given-length along-x hs = omega arith
-given-length against-x hs = omega arith
-given-length along-y hs = omega arith
-given-length against-y hs = omega arith
-given-length along-z hs = omega arith
-given-length against-z hs = omega arith
 
 -- ---- a test that each plane of one list is in another
 
@@ -93,7 +84,7 @@ sides-given w hs p e = rw (append-assoc (start w) (rest w) hs) at (go e)
     go (inl m) = in-left hs (among-in sides (start w ++ rest w) (sides-way w) p m)
     go (inr m) = in-right (start w ++ rest w) m
 
-at-weight : (X : Point) → at weight X ≡ X .w
+pub at-weight : (X : Point) → at weight X ≡ X .w
 unfolding at
 at-weight = solve (vec4s 1) (λ X. dot4ᴱ (record { x = # 0; y = # 0; z = # 0; w = # 1 }) X ≐ X .w) tt
 

@@ -1,0 +1,4 @@
+pub mod Asking
+pub mod Cuts
+pub mod Halves
+pub mod Axes

@@ -1,0 +1,9 @@
+pub mod Rules
+pub mod Cells
+pub mod Kept
+pub mod Sums
+pub mod Put
+pub mod Loops
+pub mod Clips
+pub mod Starts
+pub mod Meets

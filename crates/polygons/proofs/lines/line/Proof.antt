@@ -1,0 +1,37 @@
+-- `polygons::lines::line` meets its contract. Assumes nothing.
+use Rattle.polygons.proofs.Meets.{minor-asked, minor-kept, minor-ab, minor-ac, minor-ad, minor-bc, minor-bd, minor-cd}
+use Rattle.polygons.proofs.lines.line.Statement.{statement}
+use Rattle.polygons.proofs.lines.line.Tie as tie
+
+minor-requires : tie.Need-minor-requires
+minor-requires c κs = minor-asked (minor-ab (c .before .before .before .before .pre))
+
+minor-requires-2 : tie.Need-minor-requires-2
+minor-requires-2 c κs = minor-asked (minor-ac (c .before .before .before .before .before .before .before .before .before .pre))
+
+minor-requires-3 : tie.Need-minor-requires-3
+minor-requires-3 c κs = minor-asked (minor-ad (c .before .before .before .before .before .before .before .before .before .before .before .before .before .before .pre))
+
+minor-requires-4 : tie.Need-minor-requires-4
+minor-requires-4 c κs = minor-asked (minor-bc (c .before .before .before .before .before .before .before .before .before .before .before .before .before .before .before .before .before .before .before .pre))
+
+minor-requires-5 : tie.Need-minor-requires-5
+minor-requires-5 c κs = minor-asked (minor-bd (c .before .before .before .before .before .before .before .before .before .before .before .before .before .before .before .before .before .before .before .before .before .before .before .before .pre))
+
+minor-requires-6 : tie.Need-minor-requires-6
+minor-requires-6 c κs = minor-asked (minor-cd (c .before .before .before .before .before .before .before .before .before .before .before .before .before .before .before .before .before .before .before .before .before .before .before .before .before .before .before .before .before .pre))
+
+returns : tie.Need-returns
+returns c = record { ab = minor-kept (minor-ab (c .before .before .before .before .before .before .before .before .before .before .before .before .before .before .before .before .before .before .before .before .before .before .before .before .before .before .before .before .before .before .pre)) (c .before .before .before .before .before .before .before .before .before .before .before .before .before .before .before .before .before .before .before .before .before .before .before .before .before .minor .ensures); ac = minor-kept (minor-ac (c .before .before .before .before .before .before .before .before .before .before .before .before .before .before .before .before .before .before .before .before .before .before .before .before .before .before .before .before .before .before .pre)) (c .before .before .before .before .before .before .before .before .before .before .before .before .before .before .before .before .before .before .before .before .minor2 .ensures); ad = minor-kept (minor-ad (c .before .before .before .before .before .before .before .before .before .before .before .before .before .before .before .before .before .before .before .before .before .before .before .before .before .before .before .before .before .before .pre)) (c .before .before .before .before .before .before .before .before .before .before .before .before .before .before .before .minor3 .ensures); bc = minor-kept (minor-bc (c .before .before .before .before .before .before .before .before .before .before .before .before .before .before .before .before .before .before .before .before .before .before .before .before .before .before .before .before .before .before .pre)) (c .before .before .before .before .before .before .before .before .before .before .minor4 .ensures); bd = minor-kept (minor-bd (c .before .before .before .before .before .before .before .before .before .before .before .before .before .before .before .before .before .before .before .before .before .before .before .before .before .before .before .before .before .before .pre)) (c .before .before .before .before .before .minor5 .ensures); cd = minor-kept (minor-cd (c .before .before .before .before .before .before .before .before .before .before .before .before .before .before .before .before .before .before .before .before .before .before .before .before .before .before .before .before .before .before .pre)) (c .minor6 .ensures) }
+
+pub line-spec : {M : Type 1} → statement M
+line-spec =
+    tie.close
+    (tie.spec
+    minor-requires
+    minor-requires-2
+    minor-requires-3
+    minor-requires-4
+    minor-requires-5
+    minor-requires-6
+    returns)

@@ -1,0 +1,4 @@
+pub mod Values
+pub mod Tables
+pub mod Asked
+pub mod Lines
