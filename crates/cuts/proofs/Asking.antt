@@ -1,7 +1,7 @@
 -- Points and bounds, as the code asks them.
 --     by-one, by-none            the two answers
 --     low-.., high-..            the sums along an axis; box-low, box-high, box-none: the sides of the box that they tell of
---     holds-front                a point in front of a half-space is in front of one that holds it
+--     holds-front, holds-on      a point in front of a half-space is in front of one that holds it; what holds a holder
 --     at-row, row-is, link-..    the row that ends at a place, and its link
 --     Asking, asking-..          rows asked last first, along their links
 --     both-box, both-rows        sides of the box, and rows
@@ -155,6 +155,9 @@ holds-front {q} {p} h X u f =
     let e : dot4 q X ≡ dot4 p X +ℤ (q .w -ℤ p .w) *ℤ X .w = rw (h .same-x, h .same-y, h .same-z)
     (solve (nums 9) (λ a b c d e x y z w. a ⊗ x ⊕ b ⊗ y ⊕ c ⊗ z ⊕ e ⊗ w ≐ (a ⊗ x ⊕ b ⊗ y ⊕ c ⊗ z ⊕ d ⊗ w) ⊕ (e ⊖ d) ⊗ w) tt (p .x) (p .y) (p .z) (p .w) (q .w) (X .x) (X .y) (X .z) (X .w)) in
     rw e (add-pos f n)
+
+pub holds-on : {q p r : Plane} → Holds q p → Holds p r → Holds q r
+holds-on {q} {p} {r} f g = record { same-x = f .same-x ∙ g .same-x; same-y = f .same-y ∙ g .same-y; same-z = f .same-z ∙ g .same-z; wider = lin (nums 3) (λ a b c. (a ≦ b) ∷ (b ≦ c) ∷ [] ⊢ a ≦ c) (omega arith) (r .w) (p .w) (q .w) (g .wider) (f .wider) }
 
 -- ---- rows
 

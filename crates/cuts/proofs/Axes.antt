@@ -1,4 +1,4 @@
--- Blocks: cells whose half-spaces all stand along the axes.
+-- Blocks: cells whose half-spaces all stand along the axes, with the coefficient 1 or -1.
 --     lesser-.., along-..        the lesser of two numbers, and normals along an axis
 --     axes, in-cell, cell-side   what holds of each side of a block
 --     Narrowing, narrowing-..    the loop that narrows a block to the half-spaces of a path
@@ -38,8 +38,8 @@ use Rattle.cuts.specs.declared.Seen.{Seen}
 use Rattle.cuts.specs.declared.Seen.the-variants.{At, Unknown}
 use Rattle.cuts.specs.declared.Witnessed.the-variants.{At as Witnessed·At}
 use Rattle.cuts.specs.Paths.{Holds, Linked, along-axis, Witness, CutIn, CutTold, is-at as cut-at}
-use Rattle.cuts.specs.Blocks.{faced, Faces, block-side, block-cell, Block, Lesser, FacesAlong, SideHeld, NarrowIn, NarrowTold, AxisIn, Doubled, Between, MiddleIn, BlockIn, SeenTold, is-at, is-unknown}
-use Rattle.cuts.proofs.Asking.{at-low, at-high, holds-front, at-row, row-below, row-is, linked, link-at, in-row}
+use Rattle.cuts.specs.Blocks.{faced, Faces, block-side, block-cell, Block, Lesser, FacesAlong, SideHeld, NarrowIn, NarrowTold, BlockAxisIn, most-place, Doubled, Between, MiddleIn, BlockIn, SeenTold, is-at, is-unknown}
+use Rattle.cuts.proofs.Asking.{at-low, at-high, holds-front, holds-on, at-row, row-below, row-is, linked, link-at, in-row}
 
 -- ---- tests
 
@@ -107,9 +107,6 @@ in-cell t Q w f h (there (there (there (there (there (there (there m))))))) = el
 -- a side farther out holds one farther in
 faced-holds : (j : ℕ) {d e : ℤ} → e ⩽ d → Holds (faced j d) (faced j e)
 faced-holds j l = record { same-x = refl; same-y = refl; same-z = refl; wider = l }
-
-holds-holds : {o p q : Plane} → Holds o p → Holds p q → Holds o q
-holds-holds {o} {p} {q} h g = record { same-x = h .same-x ∙ g .same-x; same-y = h .same-y ∙ g .same-y; same-z = h .same-z ∙ g .same-z; wider = lin (nums 3) (λ a b c. (a ≦ b) ∷ (b ≦ c) ∷ [] ⊢ a ≦ c) (omega arith) (q .w) (p .w) (o .w) (g .wider) (h .wider) }
 
 -- ---- a block narrowed to the rows of a path
 
@@ -186,7 +183,7 @@ module _ {path : List ℤ} {depth : ℕ} {t : List ℤ} (a : NarrowIn path depth
         less = each (λ j z. z ⩽ getD t′ j (pos 0)) (lesser .0) (λ j m. eq-le refl)
 
         still : {p : Plane} → SideHeld t′ p → SideHeld after p
-        still q = record { k = q .k; below = q .below; holds = holds-holds (q .holds) (faced-holds (q .k) (less (q .k) (q .below))) }
+        still q = record { k = q .k; below = q .below; holds = holds-on (q .holds) (faced-holds (q .k) (less (q .k) (q .below))) }
 
         last-held : Holds (row path 9 last) (block-side after n)
         last-held = subst (λ p. Holds p (block-side after n)) (sym row-faced) (faced-holds n (subst (λ z. z ⩽ getD path (end - 6) (pos 0)) (sym set-here) (lesser .1)))
@@ -202,7 +199,7 @@ module _ {path : List ℤ} {depth : ℕ} {t : List ℤ} (a : NarrowIn path depth
         }
           where
             go : (i : ℕ) → link .to ≤ i → i < depth → (u w : ℕ) → last - i ≡ u → i - last ≡ w → SideHeld after (row path 9 i)
-            go i b m (suc u) w e d = record { k = n; below = l; holds = holds-holds (link .holds i b (omega (arith, e))) last-held }
+            go i b m (suc u) w e d = record { k = n; below = l; holds = holds-on (link .holds i b (omega (arith, e))) last-held }
             go i b m zero zero e d = let s : i ≡ last = omega (arith, e, d) in rw s (record { k = n; below = l; holds = last-held })
             go i b m zero (suc w) e d = still (g .held i (omega (arith, d)) m)
 
@@ -219,7 +216,7 @@ module _ {p q : ℤ} (hp : Within p most-d) (hq : Within q most-d) where
   abbrev pub held-two : List Entry
   held-two = arg hp ∷ arg hq ∷ []
 
-module _ {u b : ℤ} (hu : Within u 200000000) (hb : Within b most-d) where
+module _ {u b : ℤ} (hu : Within u most-place) (hb : Within b most-d) where
   abbrev pub held-side : List Entry
   held-side = arg hu ∷ arg hb ∷ []
 
@@ -309,10 +306,10 @@ block-witness {path} {depth} {t} {s} {X} n up m = record { on = m .on; inside = 
 -- ---- what the functions are given, and what they answer
 
 module _ {t : List ℤ} {n : ℕ} {d : ℤ} (a : MiddleIn t n d) where
-  pub axis-asked : {axis : ℕ} → axis < 3 → AxisIn t axis × Within (k d) most-d
+  pub axis-asked : {axis : ℕ} → axis < 3 → BlockAxisIn t axis × Within (k d) most-d
   axis-asked l = (record { below = l; block = a .block }, rw (in64 (a .small) tt) (a .small))
 
-  pub doubled-asked : {axis : ℕ} {v : ℤ} → axis < 3 → Doubled axis n (k d) v → AxisIn t axis × Within (k v) 200000000
+  pub doubled-asked : {axis : ℕ} {v : ℤ} → axis < 3 → Doubled axis n (k d) v → BlockAxisIn t axis × Within (k v) most-place
   doubled-asked l q = (record { below = l; block = a .block }, rw (in64 (q .small) tt) (q .small))
 
   -- numbers that were handed on

@@ -1,4 +1,7 @@
 -- A sum of four products, tested by its two halves: that the first is at most the other's opposite.
+--     ax .. opposed                 the steps of the code
+--     held                          the values that it starts from
+--     halves-behind, halves-front   what the test says of the sum
 use mathlib.Core.Path.{_≡_, sym, subst, _∙_}
 use mathlib.Core.Bool.{true, false}
 use mathlib.Core.List.{List, [], _∷_}

@@ -1,11 +1,13 @@
--- Blocks: cells whose half-spaces all stand along the axes, as six numbers, the d of their sides.
+-- Blocks: cells whose half-spaces all stand along the axes with the coefficient 1 or -1, as six numbers, the d of their sides.
 --     faced               the half-space that faces as a side of the box does, at a d of its own
 --     block-side, block-cell   a side of a block, and the cell that the block is
+--     Block               six numbers that are small enough
 --     Faces, FacesAlong   a normal is that of a side of the box; one along an axis
+--     Lesser              the lesser of two numbers
 --     SideHeld            a half-space holds a side of a block
 --     Doubled, Between    a place on an axis, doubled, and whether it is strictly between the two sides
 --     SeenTold            a point that shows that a plane cuts a cell, or nothing known
---     NarrowIn, NarrowTold, AxisIn, MiddleIn, BlockIn   what the functions are given, and what the loop over rows leaves
+--     NarrowIn, NarrowTold, BlockAxisIn, MiddleIn, BlockIn   what the functions are given, and what the loop over rows leaves
 use mathlib.Core.Path.{_≡_}
 use mathlib.Core.Bool.{Bool, true}
 use mathlib.Core.Logic.{_⊎_}
@@ -71,14 +73,18 @@ pub record NarrowTold (path : List ℤ) (depth : ℕ) (t t′ : List ℤ) (r : B
 
 -- ---- the middle of a block
 
-pub record AxisIn (t : List ℤ) (axis : ℕ) : Type 0 where
+-- twice a d in range
+abbrev pub most-place : ℕ
+most-place = 200000000
+
+pub record BlockAxisIn (t : List ℤ) (axis : ℕ) : Type 0 where
   pub below : axis < 3
   pub block : Block t
 
 pub record Doubled (axis k : ℕ) (d v : ℤ) : Type 0 where
   pub low : k ≡ 2 * axis → v ≡ negℤ (d *ℤ pos 2)
   pub high : k ≡ 2 * axis + 1 → v ≡ d *ℤ pos 2
-  pub small : Within v 200000000
+  pub small : Within v most-place
 
 pub record Between (t : List ℤ) (axis : ℕ) (v : ℤ) : Type 0 where
   pub above : pos 0 ⋖ v +ℤ getD t (2 * axis) (pos 0) *ℤ pos 2

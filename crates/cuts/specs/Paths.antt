@@ -1,4 +1,4 @@
--- The path to a cell, as a section reads it: nine numbers a row, a half-space a, b, c, d, a point x, y, z, w, and a link.
+-- The path to a cell, as `cut` reads it: nine numbers a row, a half-space a, b, c, d, a point x, y, z, w, and a link.
 --     Holds           one half-space holds another, as it has the same normal and no smaller d
 --     Linked, Links   the link of row i is the place where the row ends that is asked next: the rows that it passes over hold row i's half-space
 --     along-axis      a coordinate, by its axis

@@ -1,5 +1,6 @@
-// Blocks: cells whose half-spaces all stand along the axes. A block is six numbers, the d of its sides in the order of the box's sides, so
-// that the box is the block of six 30000. In a block a plane along an axis needs no polygon: the block's middle is moved onto the plane.
+// Blocks: cells whose half-spaces all stand along the axes, with the coefficient 1 or -1. A block is six numbers, the d of its sides in the
+// order of the box's sides, so that the box is the block of six 30000. For a plane that stands so too the block's middle is moved onto the
+// plane: if it is in the block still, the plane cuts the cell, and no polygon is made.
 ghost use mathlib.Core.Path.{_≡_};
 ghost use mathlib.Core.Bool.{false};
 ghost use mathlib.Core.List.{_++_};
@@ -9,7 +10,7 @@ ghost use Rattle.scope.specs.Limits.{most-d};
 ghost use Rattle.scope.specs.Cells.{box};
 ghost use Rattle.planes.specs.Values.{plane};
 ghost use Rattle.polygons.specs.Tables.{rows-down};
-ghost use Rattle.cuts.specs.Blocks.{faced, block-cell, Lesser, FacesAlong, Faces, NarrowIn, NarrowTold, AxisIn, Doubled, Between, MiddleIn, SeenTold, BlockIn};
+ghost use Rattle.cuts.specs.Blocks.{faced, block-cell, Lesser, FacesAlong, Faces, NarrowIn, NarrowTold, BlockAxisIn, most-place, Doubled, Between, MiddleIn, SeenTold, BlockIn};
 use crate::Seen;
 use planes::Meeting;
 use planes::Plane;
@@ -63,7 +64,8 @@ fn facing(a: i64, b: i64, c: i64) -> usize
     facing_along(a, 0)
 }
 
-// Whether the half-spaces of a path all stand along the axes: the block is narrowed to them. Rows are asked last first, along their links.
+// Whether the half-spaces of a path all stand along the axes: the block is narrowed to them, or on false to some of them. Rows are asked last
+// first, along their links.
 fn narrowed(path: &[i64], depth: usize, block: &mut [i64]) -> bool
     requires { ⌜ NarrowIn (now path) depth (now block) ⌝ }
     ensures { λ r. ⌜ NarrowTold (now (path .entry)) depth (now (block .entry)) (now (block .exit)) r ⌝ }
@@ -86,7 +88,7 @@ fn narrowed(path: &[i64], depth: usize, block: &mut [i64]) -> bool
 
 // Twice the middle of a block along an axis or, if side k is on this axis, twice the place of the plane that faces as side k does, at d.
 fn doubled(block: &[i64], axis: usize, k: usize, d: i64) -> i64
-    requires { ⌜ AxisIn (now block) axis × Within d most-d ⌝ }
+    requires { ⌜ BlockAxisIn (now block) axis × Within d most-d ⌝ }
     ensures { λ r. ⌜ Doubled axis k d r ⌝ }
 {
     let low = 2 * axis;
@@ -101,7 +103,7 @@ fn doubled(block: &[i64], axis: usize, k: usize, d: i64) -> i64
 
 // Whether v, twice a place on an axis, is not strictly between the two sides of a block.
 fn beyond(block: &[i64], axis: usize, v: i64) -> bool
-    requires { ⌜ AxisIn (now block) axis × Within v 200000000 ⌝ }
+    requires { ⌜ BlockAxisIn (now block) axis × Within v most-place ⌝ }
     ensures { λ r. ⌜ (r ≡ false → Between (now (block .entry)) axis v) ⌝ }
 {
     let low = 2 * axis;
@@ -131,7 +133,8 @@ fn middle(block: &[i64], k: usize, d: i64) -> Seen
     Seen::At(Meeting { x, y, z, w: 2 })
 }
 
-// A point on s and in the cell of a path, where s and the half-spaces of the path all stand along the axes.
+// A point on s and in the cell of a path, where s and the half-spaces of the path all stand along the axes and the moved middle is in the
+// block; else Unknown.
 pub fn in_block(s: Plane, path: &[i64], depth: usize) -> Seen
     requires { ⌜ BlockIn (plane s) (now path) depth ⌝ }
     ensures { λ r. ⌜ SeenTold (plane s) (rows-down (now (path .entry)) 9 depth ++ box) r ⌝ }

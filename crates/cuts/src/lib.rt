@@ -1,5 +1,5 @@
-// Whether a plane cuts the cell of a path: a section of the cell, of which only a point is wanted.
-// A path is a stack of half-spaces, nine numbers a row: a half-space a, b, c, d, a point x, y, z, w that a section has no use for, and a link.
+// Whether a plane cuts the cell of a path, with a point that shows it.
+// A path is a stack of half-spaces, nine numbers a row: a half-space a, b, c, d, a point x, y, z, w that `cut` has no use for, and a link.
 mod blocks;
 mod stops;
 
@@ -41,7 +41,13 @@ pub enum Stopped {
 
 // A half-space is clipped by only where it is needed: as long as the first three vertices, added, are not in front of some bound, the polygon
 // is clipped by that bound. No bound comes twice, so the last line is never reached.
-fn clipped(s: Plane, path: &[i64], depth: usize, first: &mut [i64], second: &mut [i64]) -> Witnessed
+fn by_clips(
+    s: Plane,
+    path: &[i64],
+    depth: usize,
+    first: &mut [i64],
+    second: &mut [i64],
+) -> Witnessed
     requires { ⌜ CutIn (plane s) (now path) depth (now first) (now second) ⌝ }
     ensures { λ r. ⌜ CutTold (plane s) (rows-down (now (path .entry)) 9 depth ++ box) r ⌝ }
 {
@@ -62,13 +68,14 @@ fn clipped(s: Plane, path: &[i64], depth: usize, first: &mut [i64], second: &mut
     Witnessed::Nothing
 }
 
-// Whether the plane s cuts the cell of a path: a point on it and in the cell, or Nothing. Where the cell is a block, no polygon is made.
+// Whether the plane s cuts the cell of a path: a point on it and in the cell, or Nothing. Where plane and cell
+// stand along the axes, a point is first sought without a polygon.
 pub fn cut(s: Plane, path: &[i64], depth: usize, first: &mut [i64], second: &mut [i64]) -> Witnessed
     requires { ⌜ CutIn (plane s) (now path) depth (now first) (now second) ⌝ }
     ensures { λ r. ⌜ CutTold (plane s) (rows-down (now (path .entry)) 9 depth ++ box) r ⌝ }
 {
     let Seen::At(m) = in_block(s, path, depth) else {
-        return clipped(s, path, depth, first, second);
+        return by_clips(s, path, depth, first, second);
     };
     Witnessed::At(m)
 }

@@ -40,8 +40,8 @@ pub fn stopped_by_box(axis: usize, x: i64, y: i64, z: i64, w: i64) -> Stopped
     Stopped::No
 }
 
-// Whether a point is not in front of a half-space. The two halves of the sum are compared and not added: of a sum of four products the
-// compiler makes vector products, which cost more.
+// Whether a point is not in front of a half-space. The two halves of the sum, at most 3.6*10^18 each, are compared and not added: of a sum
+// of four products the compiler makes vector products, which cost more.
 fn not_in_front(a: i64, b: i64, c: i64, d: i64, x: i64, y: i64, z: i64, w: i64) -> bool
     requires { ⌜ SumIn a b c d x y z w ⌝ }
     ensures yes { λ r. ⌜ (r ≡ true → at (quad a b c d) (quad x y z w) ⩽ pos 0) ⌝ }
@@ -50,7 +50,7 @@ fn not_in_front(a: i64, b: i64, c: i64, d: i64, x: i64, y: i64, z: i64, w: i64) 
     a * x + b * y <= -(c * z + d * w)
 }
 
-// A row of a path that a point is not in front of, or none: the sum is at most 7.2*10^18. Rows are asked last first, along their links: a row
+// A row of a path that a point is not in front of, or none. Rows are asked last first, along their links: a row
 // that the point is in front of speaks for those that its link passes over.
 pub fn stopped_by_row(path: &[i64], depth: usize, x: i64, y: i64, z: i64, w: i64) -> Stopped
     requires { ⌜ RowsIn (now path) depth (quad x y z w) ⌝ }

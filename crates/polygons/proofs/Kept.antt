@@ -1,5 +1,5 @@
 -- Numbers that are handed on or kept are read back from their bits: what was read is what was kept.
-use mathlib.Core.Path.{_≡_, refl, sym, ap, _∙_}
+use mathlib.Core.Path.{_≡_, ap}
 use mathlib.Core.Bool.{Bool}
 use mathlib.Core.List.{List, [], _∷_}
 use Prim.Native.Nat.{ℕ, suc, _+_, _<_}
@@ -11,8 +11,7 @@ use lib.ListN.{set}
 use lib.Seq.{sets}
 use mir.Syntax.{w64}
 use mir.Val.{SFits, Fits, toZ, ofZ}
-use mir.Facts.{toZ-ofZ, sfits-lit}
-use Rattle.scope.specs.Planes.{Plane}
+use mir.Facts.{toZ-ofZ}
 use Rattle.planes.specs.Values.{quad}
 use Rattle.polygons.specs.Tables.{number}
 

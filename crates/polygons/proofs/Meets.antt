@@ -1,6 +1,6 @@
 -- The line of two planes, and the point where a third meets it.
---     mixed-..        three products added: the steps, what was handed on, and the sum turned
---     minor-..        the minors of two planes
+--     mixed-..        three products: the steps, what was handed on, and the sum negated
+--     minor-read      a minor that was handed on
 --     line-..         the line of two planes in range, and the meetings on it
 use mathlib.Core.Path.{_≡_, sym, ap, subst, _∙_}
 use mathlib.Core.Bool.{true}
@@ -14,9 +14,11 @@ use Rattle.whole.specs.Vec.{cross4, cross4ᴱ}
 use Rattle.whole.specs.Bounds.{Within, w-up, w-sub, w-mul, w-self, fits64}
 use Rattle.whole.specs.Code.{Entry, arg, local, value-within, in64}
 use Rattle.whole.specs.Identities.{meet-turn}
+use Rattle.scope.specs.Limits.{most-abc}
 use Rattle.scope.specs.Planes as scope
 use Rattle.planes.specs.Values.{quad, plane}
-use Rattle.planes.specs.Bounds.{PlaneIn, TwoIn, MinorIn, in-range-in}
+use Rattle.planes.specs.Bounds.{PlaneIn, TwoIn, MinorIn, minor-bound, in-range-in}
+use Rattle.planes.proofs.Laws.{minor-kept, minor-ad, minor-bd, minor-cd}
 use Rattle.planes.specs.declared.Plane.{Plane}
 use Rattle.polygons.specs.declared.Line.{Line}
 use Rattle.polygons.specs.Lines.{LineOf, OnLineIn, mixture, MixedIn, most-minor, most-minor-d}
@@ -53,45 +55,20 @@ module _ {u a v b w c : ℤ} (h : MixedIn u a v b w c) where
     pub mixed-kept : k r ≡ mixture u a v b w c
     mixed-kept = in64 sized tt ∙ mixed-is
 
-    turned-bound : Within (pos 0 -ℤ k r) 600000000000000
-    turned-bound = rw (in64 sized tt) (w-sub (w-self (pos 0)) sized)
+    negated-bound : Within (pos 0 -ℤ k r) 600000000000000
+    negated-bound = rw (in64 sized tt) (w-sub (w-self (pos 0)) sized)
 
-    pub mixed-turned-fits : SFits w64 (pos 0 -ℤ k r)
-    mixed-turned-fits = fits64 turned-bound tt
+    pub mixed-negated-fits : SFits w64 (pos 0 -ℤ k r)
+    mixed-negated-fits = fits64 negated-bound tt
 
-    pub mixed-turned : k (pos 0 -ℤ k r) ≡ pos 0 -ℤ mixture u a v b w c
-    mixed-turned = in64 turned-bound tt ∙ ap (λ z. pos 0 -ℤ z) mixed-kept
+    pub mixed-negated : k (pos 0 -ℤ k r) ≡ pos 0 -ℤ mixture u a v b w c
+    mixed-negated = in64 negated-bound tt ∙ ap (λ z. pos 0 -ℤ z) mixed-kept
 
 -- ---- the minors of two planes
 
-module _ {a b c d : ℤ} (h : MinorIn a b c d) where
-  pub minor-asked : MinorIn (k a) (k b) (k c) (k d)
-  minor-asked = rw (in64 (h .a-in) tt, in64 (h .b-in) tt, in64 (h .c-in) tt, in64 (h .d-in) tt) h
-
-  pub minor-kept : {r : ℤ} → r ≡ scope.minor (k a) (k b) (k c) (k d) → k r ≡ scope.minor a b c d
-  minor-kept {r} e = in64 (subst (λ z. Within z most-minor-d) (sym is) (w-sub (w-mul (h .a-in) (h .d-in)) (w-mul (h .b-in) (h .c-in)))) tt ∙ is
-    where
-      is : r ≡ scope.minor a b c d
-      is = e ∙ cc (in64 (h .a-in) tt, in64 (h .b-in) tt, in64 (h .c-in) tt, in64 (h .d-in) tt)
-
-module _ {p q : Plane} (h : TwoIn p q) where
-  pub minor-ab : MinorIn (p .a) (p .b) (q .a) (q .b)
-  minor-ab = record { a-in = h .first .a-in; b-in = w-up (h .first .b-in) tt; c-in = h .second .a-in; d-in = w-up (h .second .b-in) tt }
-
-  pub minor-ac : MinorIn (p .a) (p .c) (q .a) (q .c)
-  minor-ac = record { a-in = h .first .a-in; b-in = w-up (h .first .c-in) tt; c-in = h .second .a-in; d-in = w-up (h .second .c-in) tt }
-
-  pub minor-ad : MinorIn (p .a) (p .d) (q .a) (q .d)
-  minor-ad = record { a-in = h .first .a-in; b-in = h .first .d-in; c-in = h .second .a-in; d-in = h .second .d-in }
-
-  pub minor-bc : MinorIn (p .b) (p .c) (q .b) (q .c)
-  minor-bc = record { a-in = h .first .b-in; b-in = w-up (h .first .c-in) tt; c-in = h .second .b-in; d-in = w-up (h .second .c-in) tt }
-
-  pub minor-bd : MinorIn (p .b) (p .d) (q .b) (q .d)
-  minor-bd = record { a-in = h .first .b-in; b-in = h .first .d-in; c-in = h .second .b-in; d-in = h .second .d-in }
-
-  pub minor-cd : MinorIn (p .c) (p .d) (q .c) (q .d)
-  minor-cd = record { a-in = h .first .c-in; b-in = h .first .d-in; c-in = h .second .c-in; d-in = h .second .d-in }
+-- a minor that was handed on
+pub minor-read : {a b c d : ℤ} (h : MinorIn a b c d) {r : ℤ} → r ≡ scope.minor (k a) (k b) (k c) (k d) → k r ≡ scope.minor a b c d
+minor-read {a} {b} {c} {d} h {r} e = let is : r ≡ scope.minor a b c d = e ∙ minor-kept h in in64 (subst (λ z. Within z most-minor-d) (sym is) (minor-bound h)) tt ∙ is
 
 -- ---- a third plane
 
@@ -140,18 +117,18 @@ pub on-line-asked : {p q r : Plane} {l : Line} → TwoIn p q → PlaneIn (r .a) 
 on-line-asked {p} {q} {r} {l} t g h = record {
   ab-in = small (h .ab) (t .first .a-in) (t .first .b-in) (t .second .a-in) (t .second .b-in);
   ac-in = small (h .ac) (t .first .a-in) (t .first .c-in) (t .second .a-in) (t .second .c-in);
-  ad-in = large (h .ad) (t .first .a-in) (t .first .d-in) (t .second .a-in) (t .second .d-in);
+  ad-in = large (h .ad) (minor-ad (t .first) (t .second));
   bc-in = small (h .bc) (t .first .b-in) (t .first .c-in) (t .second .b-in) (t .second .c-in);
-  bd-in = large (h .bd) (t .first .b-in) (t .first .d-in) (t .second .b-in) (t .second .d-in);
-  cd-in = large (h .cd) (t .first .c-in) (t .first .d-in) (t .second .c-in) (t .second .d-in);
+  bd-in = large (h .bd) (minor-bd (t .first) (t .second));
+  cd-in = large (h .cd) (minor-cd (t .first) (t .second));
   third = g;
 }
   where
-    small : {m a b c d : ℤ} → m ≡ scope.minor a b c d → Within a 1000 → Within b 1000 → Within c 1000 → Within d 1000 → Within m most-minor
+    small : {m a b c d : ℤ} → m ≡ scope.minor a b c d → Within a most-abc → Within b most-abc → Within c most-abc → Within d most-abc → Within m most-minor
     small e a b c d = rw e (w-sub (w-mul a d) (w-mul b c))
 
-    large : {m a b c d : ℤ} → m ≡ scope.minor a b c d → Within a 1000 → Within b 100000000 → Within c 1000 → Within d 100000000 → Within m most-minor-d
-    large e a b c d = rw e (w-sub (w-mul a d) (w-mul b c))
+    large : {m a b c d : ℤ} → m ≡ scope.minor a b c d → MinorIn a b c d → Within m most-minor-d
+    large e h = rw e (minor-bound h)
 
 pub two-in : {p q : Plane} → scope.in-range (plane p) ≡ true → scope.in-range (plane q) ≡ true → TwoIn p q
 two-in e f = record { first = in-range-in e; second = in-range-in f }

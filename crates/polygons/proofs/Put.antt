@@ -10,7 +10,6 @@ use Rattle.scope.specs.Planes.{Point}
 use Rattle.theory.specs.Section.{Corner, corner, index, vertex}
 use Rattle.planes.specs.Values.{meeting}
 use Rattle.planes.specs.declared.Meeting.{Meeting}
-use Rattle.polygons.specs.declared.Place.{Place}
 use Rattle.polygons.specs.Tables.{read}
 use Rattle.polygons.specs.Asked.{Puts}
 use Rattle.polygons.proofs.Cells.{read-put}

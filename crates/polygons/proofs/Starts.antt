@@ -1,6 +1,8 @@
 -- The polygon from the start to the end: the start in a table, and the clips one after the other.
 --     region-box, opened-start, first-clip, second-clip, opened-polygon   the start, and its clips by the remaining axis's two planes
---     wider           a polygon of fewer indices is one of more
+--     way-in          the way of a support, as a number
+--     wider, polygon-nothing   a polygon of fewer indices is one of more; one of no corners is Nothing
+--     look-6, between  the planes of indices from 6 on are the rows, and all are in range
 --     turn-clip, turn-more, turn-gone   one clip more, and no clip brings Nothing back
 use mathlib.Core.Path.{_≡_, refl, sym, ap, _∙_}
 use mathlib.Core.Bool.{true}

@@ -1,16 +1,16 @@
 -- The sums of planes and points that the functions are given: their limits, and that numbers read back from their bits give the same sums.
-use mathlib.Core.Path.{_≡_, refl, sym, ap, _∙_}
+use mathlib.Core.Path.{_≡_, sym, ap, _∙_}
 use mathlib.Core.Bool.{true}
-use Prim.Native.Nat.{ℕ, _<_}
+use Prim.Native.Nat.{_<_}
 use lib.IntN.{ℤ}
 use lib.Signed.{mag}
-use Rattle.whole.specs.Bounds.{Within, w-up}
+use Rattle.whole.specs.Bounds.{w-up}
 use Rattle.whole.specs.Code.{in64, back64}
 use Rattle.whole.specs.Vec.{V4, dot4}
 use Rattle.whole.specs.Sign.{Sign, minus, nought, plus, sgn}
-use Rattle.scope.specs.Planes.{at, meet, in-range}
+use Rattle.scope.specs.Planes.{at, in-range}
 use Rattle.planes.specs.Values.{quad, plane, meeting, side-is, side-sign}
-use Rattle.planes.specs.Bounds.{PlaneIn, ThreeIn, MeetingIn, SumIn, in-range-in, meeting-bound}
+use Rattle.planes.specs.Bounds.{PlaneIn, ThreeIn, MeetingIn, SumIn, in-range-in}
 use Rattle.planes.specs.declared.Plane.{Plane}
 use Rattle.planes.specs.declared.Meeting.{Meeting}
 use Rattle.planes.specs.declared.Side.{Side}

@@ -1,22 +1,22 @@
 -- What the functions are given, and what they leave: the records of their contracts.
 --     Found, Region     the plane of an index can be looked up; the support and the planes of the indices below top
 --     Polygon           the polygon in a table: the corners of the bounds that clips by gs leave of the start
---     CornerIn, SideIn, AddedIn, Signals, Sides, SidesIn   what the functions on a table are given
+--     CornerIn, SideIn, AddedIn, Signals, Sides, SidesIn, LastIn   what the functions on a table are given; side-of: the side of a corner
 --     Looked            the sides of n corners, and what it says that none are in front
---     Puts              corners put out
---     PairIn, StepIn, EmitIn, ClipIn              what the functions of a clip are given
---     ClipTold, ClippedOn                         what a clip leaves
+--     Puts, Emitted     corners put out; those of all n
+--     PairIn, StepIn, EmitIn, ClipIn, Supported   what the functions of a clip and the start are given
+--     clip-of, ClipTold, ClippedOn                what a clip leaves
 use mathlib.Core.Path.{_≡_}
 use mathlib.Core.Bool.{true}
 use mathlib.Core.Logic.{_≢_}
-use mathlib.Core.List.{List, [], _∷_, _++_, map}
+use mathlib.Core.List.{List, [], _++_, map}
 use Prim.Native.Nat.{ℕ, _+_, _-_, _*_, _≤_, _<_}
-use lib.IntN.{ℤ, pos}
+use lib.IntN.{ℤ}
 use lib.ListN.{length, getD}
 use Rattle.whole.specs.Sign.{Sign, nought, plus, sgn}
 use Rattle.scope.specs.Planes.{Plane, at, in-range, lead}
 use Rattle.scope.specs.Section as scope
-use Rattle.theory.specs.Section.{Corner, corner, index, vertex, corners, bound-side, put-corner, put-last}
+use Rattle.theory.specs.Section.{Corner, index, vertex, corners, bound-side, put-corner}
 use Rattle.planes.specs.Values.{plane}
 use Rattle.planes.specs.Bounds.{PlaneIn, MeetingIn}
 use Rattle.planes.specs.declared.Plane as struct
@@ -165,19 +165,3 @@ pub record Supported (s : Plane) (t out : List ℤ) : Type 0 where
   pub normal : lead s ≢ nought
   pub room : 675 ≤ length t
   pub out-room : 675 ≤ length out
-
-pub record ClipsIn (s : Plane) (hs : List ℤ) (width rows : ℕ) (t : List ℤ) (n : ℕ) (out : List ℤ) : Type 0 where
-  pub region : Region s hs width (6 + rows)
-  pub polygon : Polygon s (look hs width) 6 (scope.rest (scope.way s)) t n
-  pub room : 675 ≤ length t
-  pub out-room : 675 ≤ length out
-
-pub record BoundedIn (s : Plane) (hs : List ℤ) (rows : ℕ) (t : List ℤ) : Type 0 where
-  pub region : Region s hs 4 (6 + rows)
-  pub room : 675 ≤ length t
-
--- the bounds of n corners are written
-pub record WriteIn (hs t : List ℤ) (n : ℕ) (bounds : List ℤ) : Type 0 where
-  pub corner-in : (i : ℕ) → i < n → CornerIn t i
-  pub found : (i : ℕ) → i < n → Found hs 4 (index (corner-at t i))
-  pub room : 4 * n ≤ length bounds

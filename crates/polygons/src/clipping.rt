@@ -122,6 +122,7 @@ pub fn pair(
     ensures { λ r. ⌜ Puts (now (out .entry)) (now (out .exit)) at (corner k (meet (plane s) (look (now (hs .entry)) width prev) (look (now (hs .entry)) width k)) ∷ corner b (meet (plane s) (look (now (hs .entry)) width k) (look (now (hs .entry)) width b)) ∷ []) b r ⌝ }
 {
     let h = bound(hs, width, k);
+    // The point of s, prev and h is that of h, s and prev: both new vertices lie on one line, whose planes are exchanged for the first.
     put(out, at, k, on_line(line(h, s), bound(hs, width, prev)));
     put(out, at + 1, b, on_line(line(s, h), bound(hs, width, b)));
     Place {

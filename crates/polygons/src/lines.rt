@@ -10,7 +10,7 @@ use planes::Meeting;
 use planes::Plane;
 use planes::minor;
 
-// A sum of three products, the second turned: at most 6*10^14.
+// A sum of three products, the second subtracted: at most 6*10^14.
 fn mixed(u: i64, a: i64, v: i64, b: i64, w: i64, c: i64) -> i64
     requires { ⌜ MixedIn u a v b w c ⌝ }
     ensures { λ r. ⌜ r ≡ mixture u a v b w c ⌝ }

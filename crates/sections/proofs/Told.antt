@@ -22,7 +22,8 @@ use Rattle.sections.specs.declared.Sectioned.{Sectioned}
 use Rattle.sections.specs.declared.Sectioned.the-variants.{Polygon as Bounds, Nothing, Refused}
 use Rattle.sections.specs.Values.{section-of}
 use Rattle.polygons.specs.Tables.{row, look, corner-at, indices, rows-to}
-use Rattle.polygons.specs.Asked.{Region, Polygon, WriteIn}
+use Rattle.polygons.specs.Asked.{Region, Polygon}
+use Rattle.sections.specs.Asked.{WriteIn}
 use Rattle.sections.specs.Follows.{half-in}
 use Rattle.sections.specs.Promises.{answer-to, SectionTold, Drawn}
 use Rattle.polygons.proofs.Clips.{indices-length}

@@ -11,7 +11,8 @@ ghost use Rattle.scope.specs.Answers.{no-fault, no-faults, flat-planes};
 ghost use Rattle.planes.specs.Values.{plane};
 ghost use Rattle.sections.specs.Values.{lawful-is};
 ghost use Rattle.polygons.specs.Tables.{look, indices, rows-to};
-ghost use Rattle.polygons.specs.Asked.{Polygon, ClipsIn, BoundedIn, WriteIn};
+ghost use Rattle.polygons.specs.Asked.{Polygon};
+ghost use Rattle.sections.specs.Asked.{ClipsIn, BoundedIn, WriteIn};
 ghost use Rattle.sections.specs.Promises.{SectionTold, Drawn};
 use planes::MadePlane;
 use planes::Plane;
@@ -76,7 +77,7 @@ fn clip_all(
     n: usize,
     out: &mut [i64],
 ) -> usize
-    requires { ⌜ ClipsIn (plane s) (now halves) 4 rows (now t) n (now out) ⌝ }
+    requires { ⌜ ClipsIn (plane s) (now halves) rows (now t) n (now out) ⌝ }
     ensures { λ r. ⌜ Polygon (plane s) (look (now (halves .entry)) 4) (6 + rows) (rest (way (plane s)) ++ rows-to (now (halves .entry)) 4 rows) (now (t .exit)) r ⌝ }
 {
     let mut m = n;

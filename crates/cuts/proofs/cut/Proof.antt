@@ -13,8 +13,8 @@ enum-known-m c = search needs
 enum-told : tie.Need-enum-told
 enum-told c = search needs
 
-clipped-requires : tie.Need-clipped-requires
-clipped-requires c κs = c .before .before .before .before .before .pre
+by-clips-requires : tie.Need-by-clips-requires
+by-clips-requires c κs = c .before .before .before .before .before .pre
 
 same-length : tie.Need-same-length
 same-length c = search needs
@@ -23,7 +23,7 @@ same-length-2 : tie.Need-same-length-2
 same-length-2 c = search needs
 
 returns : tie.Need-returns
-returns c = c .before .before .clipped .ensures
+returns c = c .before .before .by-clips .ensures
 
 returns-2 : tie.Need-returns-2
 returns-2 c = cut-seen (c .before .before .before .in-block .ensures) (c .before .m .given .0 .0) (c .before .m .given .1)
@@ -35,7 +35,7 @@ cut-spec =
     in-block-requires
     enum-known-m
     enum-told
-    clipped-requires
+    by-clips-requires
     same-length
     same-length-2
     returns

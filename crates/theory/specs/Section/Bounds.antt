@@ -4,7 +4,6 @@
 --     det4-bounds       the 4×4 determinant: 2.4·10^18
 --     side-bounds       a plane at a point in range: 4·10^18
 --     witness-bounds    the witness of bounds in range: 1.8·10^15 and 1.8·10^10
-use mathlib.Core.Logic.{_⊎_, inl, inr}
 use mathlib.Core.List.{List}
 use Prim.Native.Nat.{ℕ, _+_, _*_}
 use lib.Dec.{T, leb, leb→le}
@@ -15,11 +14,9 @@ use Rattle.whole.specs.Vec.{V3, V4, yzw, xzw, xyw, xyz, dot4, det3, det4}
 use Rattle.whole.specs.Bounds.{Within, w-self, w-add, w-sub, w-mul, w-up}
 use Rattle.whole.specs.Identities.{det4-last}
 use Rattle.whole.specs.Lists.{Each.none, Each._and_, Each, each-final}
-use Rattle.whole.specs.Members.{_∈_, in-either, in-each, each-in}
+use Rattle.whole.specs.Members.{_∈_, in-each}
 use Rattle.scope.specs.Limits.{most-abc, most-d, most-xyz, most-w}
 use Rattle.scope.specs.Planes.{Plane, Point, at, meet, in-range, point-in-range}
-use Rattle.scope.specs.Section.{way, section}
-use Rattle.theory.specs.Section.Sides.{sides, given-sides, section-given}
 use Rattle.theory.specs.Section.Witness.{added, witness}
 
 pub record Sized (X : V4 ℤ) (A B : ℕ) : Type 0 where

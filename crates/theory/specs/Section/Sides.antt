@@ -2,6 +2,7 @@
 --     sides           x-, x+, y-, y+, z-, z+
 --     given           start, remaining planes and half-spaces, in the order in which they bind
 --     given-sides     each of them is a side or a half-space
+--     at-weight       the plane whose value is a point's w
 --     inside-given, given-inside   a point strictly in the box and in each half-space is strictly inside each of them, and back if its w is positive
 --     section-given   each bound of a section is one of them
 use mathlib.Core.Path.{_≡_, refl}
@@ -9,8 +10,6 @@ use mathlib.Core.Bool.{Bool, true, false}
 use mathlib.Core.List.{List, [], _∷_, _++_, append-assoc}
 use mathlib.Core.Logic.{_⊎_, inl, inr}
 use Prim.Native.Nat.{_+_}
-use lib.ListN.{length}
-use native.Mathlib.Omega.{arith}
 use lib.Dec.{T}
 use lib.IntN.{pos}
 use Rattle.whole.specs.Tests.{_and_, _or_, and-split, or-split}

@@ -11,9 +11,6 @@ use Rattle.polygons.specs.Asked.{side-of}
 use Rattle.polygons.proofs.Rules.{code-plus}
 use Rattle.polygons.proofs.clipping.all_front.Statement.{statement}
 use Rattle.polygons.proofs.clipping.all_front.Tie as tie
-use Rattle.polygons.proofs.clipping.all_front.Reads as reads
-use Rattle.polygons.proofs.clipping.all_front.Lts as lts
-use Rattle.polygons.proofs.clipping.side_at.Reads as side-at-reads
 
 abbrev Inv-loop : tie.InvT-loop
 Inv-loop h t n i₀ i = (i ≤ n) × ((j : ℕ) → j < i → side-of h t j ≡ plus)

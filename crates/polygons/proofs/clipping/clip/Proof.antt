@@ -8,12 +8,6 @@ use Rattle.planes.specs.Values.{plane}
 use Rattle.polygons.proofs.Clips.{clip-n, clip-found, clip-side, clip-sides, clip-same, clip-gone, clip-emit, clip-cut}
 use Rattle.polygons.proofs.clipping.clip.Statement.{statement}
 use Rattle.polygons.proofs.clipping.clip.Tie as tie
-use Rattle.polygons.proofs.clipping.clip.Reads as reads
-use Rattle.polygons.proofs.clipping.clip.Lts as lts
-use Rattle.polygons.proofs.clipping.all_front.Reads as all-front-reads
-use Rattle.polygons.proofs.clipping.emit.Reads as emit-reads
-use Rattle.polygons.proofs.clipping.sides_of.Reads as sides-of-reads
-use Rattle.polygons.proofs.table.bound.Reads as bound-reads
 
 bound-requires : tie.Need-bound-requires
 bound-requires c κs = let s = c .args in clip-found (plane (s .s)) (now (s .hs)) (s .width) (s .k) (now (s .t)) (s .n) (now (s .out)) (c .pre)

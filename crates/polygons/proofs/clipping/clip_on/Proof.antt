@@ -6,10 +6,6 @@ use Rattle.planes.specs.Values.{plane}
 use Rattle.polygons.proofs.Clips.{on-same, on-gone, on-cut}
 use Rattle.polygons.proofs.clipping.clip_on.Statement.{statement}
 use Rattle.polygons.proofs.clipping.clip_on.Tie as tie
-use Rattle.polygons.proofs.clipping.clip_on.Reads as reads
-use Rattle.polygons.proofs.clipping.clip_on.Lts as lts
-use Rattle.polygons.proofs.clipping.clip.Reads as clip-reads
-use Rattle.polygons.proofs.table.copy.Reads as copy-reads
 
 clip-requires : tie.Need-clip-requires
 clip-requires c κs = c .before .before .pre

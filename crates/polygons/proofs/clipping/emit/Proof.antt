@@ -12,11 +12,6 @@ use Rattle.polygons.proofs.Cells.{read-none}
 use Rattle.polygons.proofs.Loops.{last-none, last-more, last-below, put-all-none, step-room, step-count, step-read}
 use Rattle.polygons.proofs.clipping.emit.Statement.{statement}
 use Rattle.polygons.proofs.clipping.emit.Tie as tie
-use Rattle.polygons.proofs.clipping.emit.Reads as reads
-use Rattle.polygons.proofs.clipping.emit.Lts as lts
-use Rattle.polygons.proofs.clipping.last_out.Reads as last-out-reads
-use Rattle.polygons.proofs.clipping.step.Reads as step-reads
-use Rattle.polygons.proofs.codes.said.Reads as said-reads
 
 abbrev Inv-loop : tie.InvT-loop
 Inv-loop s hs width k t n sides out₀ signals at₀ prev₀ i₀ out at prev i =

@@ -5,11 +5,6 @@ use Rattle.polygons.specs.Tables.{corner-at}
 use Rattle.polygons.proofs.Put.{puts-one}
 use Rattle.polygons.proofs.clipping.keep.Statement.{statement}
 use Rattle.polygons.proofs.clipping.keep.Tie as tie
-use Rattle.polygons.proofs.clipping.keep.Reads as reads
-use Rattle.polygons.proofs.clipping.keep.Lts as lts
-use Rattle.polygons.proofs.table.index_at.Reads as index-at-reads
-use Rattle.polygons.proofs.table.put.Reads as put-reads
-use Rattle.polygons.proofs.table.vertex_at.Reads as vertex-at-reads
 
 index-at-requires : tie.Need-index-at-requires
 index-at-requires c κs = c .pre .0

@@ -16,10 +16,6 @@ use Rattle.polygons.specs.Tables.{last-to}
 use Rattle.polygons.proofs.Loops.{last-none, last-passed, last-found}
 use Rattle.polygons.proofs.clipping.last_out.Statement.{statement}
 use Rattle.polygons.proofs.clipping.last_out.Tie as tie
-use Rattle.polygons.proofs.clipping.last_out.Reads as reads
-use Rattle.polygons.proofs.clipping.last_out.Lts as lts
-use Rattle.polygons.proofs.codes.said.Reads as said-reads
-use Rattle.polygons.proofs.table.index_at.Reads as index-at-reads
 
 abbrev Inv-loop : tie.InvT-loop
 Inv-loop signals sides t n left₀ left = (left ≤ n) × (last-to sides t n 0 left ≡ last-to sides t n 0 n)

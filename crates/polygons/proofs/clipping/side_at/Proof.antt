@@ -7,11 +7,6 @@ use Rattle.polygons.specs.Tables.{corner-at}
 use Rattle.polygons.proofs.Sums.{sum-asked, side-told}
 use Rattle.polygons.proofs.clipping.side_at.Statement.{statement}
 use Rattle.polygons.proofs.clipping.side_at.Tie as tie
-use Rattle.polygons.proofs.clipping.side_at.Reads as reads
-use Rattle.polygons.proofs.clipping.side_at.Lts as lts
-use Rattle.planes.proofs.value.Reads as value-reads
-use Rattle.planes.proofs.sign.Reads as sign-reads
-use Rattle.polygons.proofs.table.vertex_at.Reads as vertex-at-reads
 
 vertex-at-requires : tie.Need-vertex-at-requires
 vertex-at-requires c κs = search needs

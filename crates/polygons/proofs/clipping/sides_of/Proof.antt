@@ -9,10 +9,6 @@ use Rattle.polygons.specs.Asked.{Looked}
 use Rattle.polygons.proofs.Loops.{looked-none, looked-more}
 use Rattle.polygons.proofs.clipping.sides_of.Statement.{statement}
 use Rattle.polygons.proofs.clipping.sides_of.Tie as tie
-use Rattle.polygons.proofs.clipping.sides_of.Reads as reads
-use Rattle.polygons.proofs.clipping.sides_of.Lts as lts
-use Rattle.polygons.proofs.clipping.front_more.Reads as front-more-reads
-use Rattle.polygons.proofs.clipping.side_at.Reads as side-at-reads
 
 abbrev Inv-loop : tie.InvT-loop
 Inv-loop h t n sides₀ fronts₀ i₀ sides fronts i = (i ≤ n) × (length sides ≡ length sides₀) × Looked h t i sides fronts

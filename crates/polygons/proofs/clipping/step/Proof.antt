@@ -8,11 +8,6 @@ use Rattle.polygons.specs.Tables.{look, corner-at}
 use Rattle.polygons.proofs.Loops.{step-nothing, room-keep, step-keep, room-pair, step-pair}
 use Rattle.polygons.proofs.clipping.step.Statement.{statement}
 use Rattle.polygons.proofs.clipping.step.Tie as tie
-use Rattle.polygons.proofs.clipping.step.Reads as reads
-use Rattle.polygons.proofs.clipping.step.Lts as lts
-use Rattle.polygons.proofs.clipping.keep.Reads as keep-reads
-use Rattle.polygons.proofs.clipping.pair.Reads as pair-reads
-use Rattle.polygons.proofs.table.index_at.Reads as index-at-reads
 
 enum-told : tie.Need-enum-told
 enum-told c = search needs

@@ -4,8 +4,6 @@ use native.Mathlib.Omega.{arith}
 use Rattle.polygons.proofs.Rules.{next-last, next-later}
 use Rattle.polygons.proofs.codes.next.Statement.{statement}
 use Rattle.polygons.proofs.codes.next.Tie as tie
-use Rattle.polygons.proofs.codes.next.Reads as reads
-use Rattle.polygons.proofs.codes.next.Lts as lts
 
 add-if1 : tie.Need-add-if1
 add-if1 c = search needs

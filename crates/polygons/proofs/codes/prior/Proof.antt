@@ -4,8 +4,6 @@ use native.Mathlib.Omega.{arith}
 use Rattle.polygons.proofs.Rules.{prior-first, prior-later}
 use Rattle.polygons.proofs.codes.prior.Statement.{statement}
 use Rattle.polygons.proofs.codes.prior.Tie as tie
-use Rattle.polygons.proofs.codes.prior.Reads as reads
-use Rattle.polygons.proofs.codes.prior.Lts as lts
 
 sub-result : tie.Need-sub-result
 sub-result c = search needs

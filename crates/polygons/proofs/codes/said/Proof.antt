@@ -5,11 +5,6 @@ use denote.Ref.{now}
 use Rattle.polygons.proofs.Rules.{said-there}
 use Rattle.polygons.proofs.codes.said.Statement.{statement}
 use Rattle.polygons.proofs.codes.said.Tie as tie
-use Rattle.polygons.proofs.codes.said.Reads as reads
-use Rattle.polygons.proofs.codes.said.Lts as lts
-use Rattle.polygons.proofs.codes.next.Reads as next-reads
-use Rattle.polygons.proofs.codes.prior.Reads as prior-reads
-use Rattle.polygons.proofs.codes.signal.Reads as signal-reads
 
 prior-requires : tie.Need-prior-requires
 prior-requires c κs = search needs

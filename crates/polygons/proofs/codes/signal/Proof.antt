@@ -5,8 +5,6 @@ use Rattle.polygons.specs.Values.{sign-of}
 use Rattle.polygons.proofs.Rules.{told-nothing, told-B, told-HB}
 use Rattle.polygons.proofs.codes.signal.Statement.{statement}
 use Rattle.polygons.proofs.codes.signal.Tie as tie
-use Rattle.polygons.proofs.codes.signal.Reads as reads
-use Rattle.polygons.proofs.codes.signal.Lts as lts
 
 mul-k : tie.Need-mul-k
 mul-k c = search needs

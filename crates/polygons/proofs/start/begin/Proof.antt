@@ -10,9 +10,6 @@ use Rattle.polygons.specs.Values.{way-of, six, starts}
 use Rattle.polygons.specs.Tables.{box-side}
 use Rattle.polygons.proofs.start.begin.Statement.{statement}
 use Rattle.polygons.proofs.start.begin.Tie as tie
-use Rattle.polygons.proofs.start.begin.Reads as reads
-use Rattle.polygons.proofs.start.begin.Lts as lts
-use Rattle.polygons.proofs.start.four.Reads as four-reads
 
 -- the corners of the way that stands at a number
 at : (s : Plane) {v w : ℕ} → w ≡ v → corners s box-side (starts (way-of v)) ≡ corners s box-side (starts (way-of w))

@@ -4,8 +4,6 @@ use Rattle.polygons.proofs.Rules.{from-below, from-not-below}
 use Rattle.polygons.proofs.Kept.{below-kept}
 use Rattle.polygons.proofs.start.by_sign.Statement.{statement}
 use Rattle.polygons.proofs.start.by_sign.Tie as tie
-use Rattle.polygons.proofs.start.by_sign.Reads as reads
-use Rattle.polygons.proofs.start.by_sign.Lts as lts
 
 add-result : tie.Need-add-result
 add-result c = search needs

@@ -11,11 +11,6 @@ use Rattle.polygons.proofs.Put.{stored-read}
 use Rattle.polygons.proofs.Loops.{four-read}
 use Rattle.polygons.proofs.start.four.Statement.{statement}
 use Rattle.polygons.proofs.start.four.Tie as tie
-use Rattle.polygons.proofs.start.four.Reads as reads
-use Rattle.polygons.proofs.start.four.Lts as lts
-use Rattle.planes.proofs.minors.Reads as minors-reads
-use Rattle.polygons.proofs.table.box_side.Reads as box-side-reads
-use Rattle.polygons.proofs.table.put.Reads as put-reads
 
 box-side-requires : tie.Need-box-side-requires
 box-side-requires c κs = search needs

@@ -2,8 +2,6 @@
 use Rattle.polygons.proofs.Rules.{greatest-yes, greatest-no}
 use Rattle.polygons.proofs.start.greatest.Statement.{statement}
 use Rattle.polygons.proofs.start.greatest.Tie as tie
-use Rattle.polygons.proofs.start.greatest.Reads as reads
-use Rattle.polygons.proofs.start.greatest.Lts as lts
 
 returns : tie.Need-returns
 returns c = let s = c .before .args in greatest-yes (s .x) (s .y) (s .z) (c .if1 .taken)

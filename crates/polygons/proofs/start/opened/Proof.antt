@@ -10,11 +10,6 @@ use Rattle.polygons.proofs.Loops.{start-corners, rest-first, rest-secon
 use Rattle.polygons.proofs.Starts.{way-in, first-clip, second-clip, opened-polygon}
 use Rattle.polygons.proofs.start.opened.Statement.{statement}
 use Rattle.polygons.proofs.start.opened.Tie as tie
-use Rattle.polygons.proofs.start.opened.Reads as reads
-use Rattle.polygons.proofs.start.opened.Lts as lts
-use Rattle.polygons.proofs.clipping.clip_on.Reads as clip-on-reads
-use Rattle.polygons.proofs.start.begin.Reads as begin-reads
-use Rattle.polygons.proofs.start.way.Reads as way-reads
 
 way-requires : tie.Need-way-requires
 way-requires c κs = search needs

@@ -8,11 +8,6 @@ use Rattle.polygons.specs.Values.{way-from}
 use Rattle.polygons.proofs.Rules.{way-first, way-second, way-third}
 use Rattle.polygons.proofs.start.way.Statement.{statement}
 use Rattle.polygons.proofs.start.way.Tie as tie
-use Rattle.polygons.proofs.start.way.Reads as reads
-use Rattle.polygons.proofs.start.way.Lts as lts
-use Rattle.planes.proofs.size.Reads as size-reads
-use Rattle.polygons.proofs.start.by_sign.Reads as by-sign-reads
-use Rattle.polygons.proofs.start.greatest.Reads as greatest-reads
 
 size-requires : tie.Need-size-requires
 size-requires c κs = search needs

@@ -5,10 +5,6 @@ use denote.Ref.{now}
 use Rattle.polygons.proofs.Cells.{look-box, look-row}
 use Rattle.polygons.proofs.table.bound.Statement.{statement}
 use Rattle.polygons.proofs.table.bound.Tie as tie
-use Rattle.polygons.proofs.table.bound.Reads as reads
-use Rattle.polygons.proofs.table.bound.Lts as lts
-use Rattle.polygons.proofs.table.box_side.Reads as box-side-reads
-use Rattle.polygons.proofs.table.row.Reads as row-reads
 
 box-side-requires : tie.Need-box-side-requires
 box-side-requires c κs = search needs

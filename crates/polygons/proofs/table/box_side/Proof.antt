@@ -4,8 +4,6 @@ use native.Mathlib.Omega.{arith}
 use Rattle.polygons.specs.Tables.{box-side}
 use Rattle.polygons.proofs.table.box_side.Statement.{statement}
 use Rattle.polygons.proofs.table.box_side.Tie as tie
-use Rattle.polygons.proofs.table.box_side.Reads as reads
-use Rattle.polygons.proofs.table.box_side.Lts as lts
 
 returns : tie.Need-returns
 returns c = ap box-side (sym (c .match .keys1))

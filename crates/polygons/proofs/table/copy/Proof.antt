@@ -1,6 +1,6 @@
 -- `polygons::table::copy` meets its contract. The loop has copied the first i numbers. Assumes nothing.
 use borrow.Author.Needs.{needs}
-use mathlib.Core.Path.{_≡_, refl, ap, _∙_}
+use mathlib.Core.Path.{_≡_, refl}
 use Prim.Native.Nat.{ℕ, _-_, _≤_, _<_}
 use native.Mathlib.Omega.{arith}
 use lib.IntN.{pos}
@@ -12,8 +12,6 @@ use mir.Facts.{toZ-ofZ}
 use Rattle.polygons.proofs.Cells.{copied-more}
 use Rattle.polygons.proofs.table.copy.Statement.{statement}
 use Rattle.polygons.proofs.table.copy.Tie as tie
-use Rattle.polygons.proofs.table.copy.Reads as reads
-use Rattle.polygons.proofs.table.copy.Lts as lts
 
 abbrev Inv-loop : tie.InvT-loop
 Inv-loop from to₀ n i₀ to i = (i ≤ n) × (length to ≡ length to₀) × ((j : ℕ) → j < i → getD to j (pos 0) ≡ getD from j (pos 0))

@@ -8,8 +8,6 @@ use lib.ListN.{getD}
 use denote.Ref.{now}
 use Rattle.polygons.proofs.table.index_at.Statement.{statement}
 use Rattle.polygons.proofs.table.index_at.Tie as tie
-use Rattle.polygons.proofs.table.index_at.Reads as reads
-use Rattle.polygons.proofs.table.index_at.Lts as lts
 
 mul-k : tie.Need-mul-k
 mul-k c = search needs

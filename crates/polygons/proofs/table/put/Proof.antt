@@ -7,8 +7,6 @@ use denote.Ref.{now}
 use Rattle.polygons.proofs.Kept.{stored-corner}
 use Rattle.polygons.proofs.table.put.Statement.{statement}
 use Rattle.polygons.proofs.table.put.Tie as tie
-use Rattle.polygons.proofs.table.put.Reads as reads
-use Rattle.polygons.proofs.table.put.Lts as lts
 
 mul-at : tie.Need-mul-at
 mul-at c = search needs

@@ -4,8 +4,6 @@ use Rattle.polygons.specs.Tables.{row}
 use Rattle.polygons.proofs.Kept.{four-kept}
 use Rattle.polygons.proofs.table.row.Statement.{statement}
 use Rattle.polygons.proofs.table.row.Tie as tie
-use Rattle.polygons.proofs.table.row.Reads as reads
-use Rattle.polygons.proofs.table.row.Lts as lts
 
 mul-at : tie.Need-mul-at
 mul-at c = search needs

@@ -4,8 +4,6 @@ use Rattle.polygons.specs.Tables.{corner-at}
 use Rattle.polygons.proofs.Kept.{four-kept}
 use Rattle.polygons.proofs.table.vertex_at.Statement.{statement}
 use Rattle.polygons.proofs.table.vertex_at.Tie as tie
-use Rattle.polygons.proofs.table.vertex_at.Reads as reads
-use Rattle.polygons.proofs.table.vertex_at.Lts as lts
 
 mul-at : tie.Need-mul-at
 mul-at c = search needs

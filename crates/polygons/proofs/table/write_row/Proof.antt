@@ -11,9 +11,6 @@ use Rattle.scope.specs.Answers.{flat-planes}
 use Rattle.polygons.proofs.Kept.{stored-four}
 use Rattle.polygons.proofs.table.write_row.Statement.{statement}
 use Rattle.polygons.proofs.table.write_row.Tie as tie
-use Rattle.polygons.proofs.table.write_row.Reads as reads
-use Rattle.polygons.proofs.table.write_row.Lts as lts
-use Rattle.polygons.proofs.table.bound.Reads as bound-reads
 
 bound-requires : tie.Need-bound-requires
 bound-requires c κs = search needs

@@ -1,4 +1,4 @@
--- `cuts::clipped` meets its contract. The loop has the polygon of as many clips as it counts (proofs/Cuts). Assumes nothing.
+-- `cuts::by_clips` meets its contract. The loop has the polygon of as many clips as it counts (proofs/Cuts). Assumes nothing.
 use borrow.Author.Needs.{needs}
 use mathlib.Core.Path.{_≡_, refl, subst, _∙_}
 use Prim.Native.Nat.{_+_, _-_, _≤_}
@@ -10,8 +10,8 @@ use Rattle.polygons.specs.Values.{way-of}
 use Rattle.polygons.proofs.Loops.{start-corners}
 use Rattle.polygons.proofs.Starts.{way-in, opened-start}
 use Rattle.cuts.proofs.Cuts.{Cutting, cutting-first, cutting-end, cutting-nothing, cutting-added, cutting-rows, cutting-told, cutting-at, cutting-clip, cutting-more}
-use Rattle.cuts.proofs.clipped.Statement.{statement}
-use Rattle.cuts.proofs.clipped.Tie as tie
+use Rattle.cuts.proofs.by_clips.Statement.{statement}
+use Rattle.cuts.proofs.by_clips.Tie as tie
 
 abbrev Inv-loop : tie.InvT-loop
 Inv-loop s path depth first₀ second₀ w n₀ end counter₀ first second n counter = (counter ≤ depth + 3) × (length first ≡ length first₀) × (length second ≡ length second₀) × Cutting (plane s) path depth first n counter
@@ -82,8 +82,8 @@ same-length-6 c = search needs
 returns-3 : tie.Need-returns-3 Inv-loop μ-loop
 returns-3 c = let s = (c .before .before .before .before .before .before) in let q = c .before .loop in absurd (cutting-end (s .pre) (subst (Cutting (plane (s .args .s)) (now (s .args .path)) (s .args .depth) (q .first) (q .n)) (omega (arith, c .loop-test .left, q .inv .0)) (q .inv .3)))
 
-pub clipped-spec : {M : Type 1} → statement M
-clipped-spec =
+pub by-clips-spec : {M : Type 1} → statement M
+by-clips-spec =
     tie.close
     (tie.spec
     Inv-loop
