@@ -6,9 +6,11 @@
 --     four-same, getD-before, put-row   four entries that stay, the entries before a store, and a stored row
 --     on-links                   each row has its link
 --     link-none, link-past       the link of a row to be written
---     row-same, linked-same, links-pushed   links of a table with the same rows, and of one row more
+--     row-same, linked-same, links-same     rows and links of a table with the same rows
+--     pushed-before, pushed-row, pushed-linked   one row more: the rows before it, its half-space and its link
 --     on-same, on-push           a table with the same rows, and one row more
---     cut-asked, missed-asked    what `cut` and `missed` are given
+--     cut-asked, beside-asked, missed-asked   what `cut`, `parallel` and `missed` are given
+--     row-at, found-row          the row that ends at a place, and one that a plane holds
 --     classified-front, classified-behind   the answer, from a parallel half-space
 --     classified-cut, classified-missed     and from that of `cut`
 use mathlib.Core.Path.{_≡_, refl, sym, ap, subst, _∙_}
@@ -50,14 +52,29 @@ use Rattle.planes.specs.declared.Plane as struct
 use Rattle.planes.specs.declared.Meeting.{Meeting}
 use Rattle.sections.specs.declared.Witnessed.{Witnessed}
 use Rattle.sections.specs.declared.Witnessed.the-variants.{At, Nothing as Missed}
-use Rattle.sections.specs.Tables.{four-at, row, rows-down}
+use Rattle.cells.specs.declared.Beside.the-variants as beside
+use Rattle.polygons.specs.Tables.{four-at, row, rows-down}
 use Rattle.sections.specs.Paths.{Holds, Linked, Links, Witness, CutIn, CutTold, is-at, is-nothing}
-use Rattle.sections.proofs.Kept.{k}
+use Rattle.polygons.proofs.Kept.{k}
 use Rattle.sections.proofs.Asking.{holds-front, row-in}
 use Rattle.cells.specs.Paths.{witness-at, PathIn, LinkTold, nine, Pushed, FoundRow, BesideTold, BesideIn, OnPath, at-box, below, Classes, is-cut, is-front, is-behind, own-side, by-sign, side-by, missed-by, MissedIn, ClassifyIn}
 use Rattle.cells.specs.declared.Classified.{Classified}
 use Rattle.cells.specs.declared.Beside as Beside
 use Rattle.cells.specs.declared.Classified.the-variants.{Cut, Front, Behind}
+
+-- ---- what is found beside a plane, told apart
+
+pub front-not-behind : {A : Type 0} → beside.Front ≡ beside.Behind → A
+front-not-behind e = differ (cc)
+
+pub behind-not-front : {A : Type 0} → beside.Behind ≡ beside.Front → A
+behind-not-front e = differ (cc)
+
+pub neither-not-front : {A : Type 0} → beside.Neither ≡ beside.Front → A
+neither-not-front e = differ (cc)
+
+pub neither-not-behind : {A : Type 0} → beside.Neither ≡ beside.Behind → A
+neither-not-behind e = differ (cc)
 
 -- ---- the rows of a path
 
@@ -258,13 +275,6 @@ module _ {path path′ : List ℤ} {d : ℕ} {h : struct.Plane} {m : Meeting} (p
     link = ap (λ t. getD t (d * 9 + 8) (pos 0)) (p .table) ∙ put-link path d h m (p .number) l ∙ p .told .link;
     holds = λ j a b. let u = row-same path path′ pushed-before j b in rw (u, pushed-row) (p .told .holds j a b);
   }
-
-  pub links-pushed : Links path d → Links path′ (d + 1)
-  links-pushed k i b = go (d - i) refl
-    where
-      go : (n : ℕ) → d - i ≡ n → Linked path′ i
-      go zero e = let u : i ≡ d = omega arith in rw u pushed-linked
-      go (suc n) e = let c : i < d = omega arith in linked-same pushed-before i c (k i c)
 
   pub on-push : {Q : Plane → Type 0} {c : List Plane} → OnPath Q path d c → (s : Bool) (g : Plane) → Q g → plane h ≡ half s g → Witness g c (meeting m) → OnPath Q path′ (suc d) (half s g ∷ c)
   on-push {c = c} o s g q e w = below (on-same o pushed-before) s g q (pushed-row ∙ e) (subst (Witness g c) (sym pushed-witness) w) pushed-linked

@@ -22,7 +22,7 @@ use Rattle.planes.specs.Values.{plane, meeting}
 use Rattle.planes.specs.Bounds.{PlaneIn, SumIn}
 use Rattle.planes.specs.declared.Plane as struct
 use Rattle.planes.specs.declared.Meeting.{Meeting}
-use Rattle.sections.specs.Tables.{four-at, row}
+use Rattle.polygons.specs.Tables.{four-at, row}
 use Rattle.sections.specs.Paths.{Holds, Linked, Links}
 pub use Rattle.sections.specs.Paths.{Witness}
 use Rattle.cells.specs.declared.Beside as Beside

@@ -1,23 +1,23 @@
 // Cells, as document 01's "Cells and the merge" has them: the path to a cell, and how a plane lies to it.
 // A path is a stack of kept half-spaces, nine numbers a row: the half-space a, b, c, d, the witness x, y, z, w of its cut, a point that lies
-// on its plane and in the cell of the rows before it, and the row's link. Rows that hold the rows after them need not be asked: the link is
-// the place where the row ends that is asked next.
+// on its plane and in the cell of the rows before it, and the row's link. A row that holds row i's half-space need not be asked after row i:
+// row i's link is the place where the row ends that is asked next.
 use planes::Meeting;
 use planes::Plane;
 use planes::Side;
 use sections::Witnessed;
 ghost use mathlib.Core.Path.{_≡_};
 ghost use mathlib.Core.Bool.{true, false};
-ghost use mathlib.Core.List.{[], _∷_};
+ghost use mathlib.Core.List.{[]};
 ghost use Prim.Native.Nat.{_+_, _*_, _≤_};
 ghost use lib.ListN.{length};
 ghost use lib.Seq.{sets};
 ghost use Rattle.scope.specs.Planes.{flip};
 ghost use Rattle.planes.specs.Values.{plane, meeting};
 ghost use Rattle.planes.specs.Bounds.{PlaneIn};
-ghost use Rattle.sections.specs.Tables.{four-at, row};
+ghost use Rattle.polygons.specs.Tables.{four-at, row};
 ghost use Rattle.sections.specs.Paths.{Holds};
-ghost use Rattle.cells.specs.Paths.{witness-at, PathIn, LinkTold, Pushed, own-side, side-by, missed-by, BelowIn, MissedIn, BesideIn, BesideTold, ClassifyIn, Classified-in};
+ghost use Rattle.cells.specs.Paths.{witness-at, PathIn, LinkTold, nine, Pushed, own-side, side-by, missed-by, BelowIn, MissedIn, BesideIn, BesideTold, ClassifyIn, Classified-in};
 
 // ---- the answers
 
@@ -64,7 +64,8 @@ fn witness(path: &[i64], i: usize) -> Meeting
 
 // Whether a half-space q holds p: it has the same normal, and no smaller d.
 fn holds(q: Plane, p: Plane) -> bool
-    ensures { λ r. ⌜ (r ≡ true → Holds (plane q) (plane p)) × (r ≡ false → Holds (plane q) (plane p) → ⊥) ⌝ }
+    ensures yes { λ r. ⌜ (r ≡ true → Holds (plane q) (plane p)) ⌝ }
+    ensures no { λ r. ⌜ (r ≡ false → Holds (plane q) (plane p) → ⊥) ⌝ }
 {
     if q.a != p.a {
         return false;
@@ -91,7 +92,8 @@ pub fn opposite(p: Plane) -> Plane
     }
 }
 
-// The link of row `depth`, if it is to hold h: past the row before it if that one holds h, and then past those that its own link passes over.
+// The link of row `depth` if h is written there: past the row before it if that one holds h, and then past those that its own link passes
+// over.
 fn link(path: &[i64], depth: usize, h: Plane) -> i64
     requires { ⌜ PathIn (now path) depth ⌝ }
     ensures { λ r. ⌜ LinkTold (now (path .entry)) depth (plane h) r ⌝ }
@@ -106,7 +108,7 @@ fn link(path: &[i64], depth: usize, h: Plane) -> i64
 // Writes row `depth`: a half-space, the witness of its cut, and its link.
 fn put_row(path: &mut [i64], depth: usize, h: Plane, m: Meeting, link: i64)
     requires { ⌜ depth * 9 + 9 ≤ length (now path) ⌝ }
-    ensures { λ _. ⌜ now (path .exit) ≡ sets (now (path .entry)) (depth * 9) (h .a ∷ h .b ∷ h .c ∷ h .d ∷ m .x ∷ m .y ∷ m .z ∷ m .w ∷ link ∷ []) ⌝ }
+    ensures { λ _. ⌜ now (path .exit) ≡ sets (now (path .entry)) (depth * 9) (nine h m link) ⌝ }
 {
     let at = depth * 9;
     let a = h.a;

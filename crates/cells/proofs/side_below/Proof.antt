@@ -5,7 +5,7 @@ use native.Mathlib.Omega.{arith}
 use denote.Ref.{now}
 use Rattle.planes.specs.Values.{plane}
 use Rattle.planes.specs.declared.Side.the-variants.{Front, On, Back}
-use Rattle.sections.specs.Tables.{row}
+use Rattle.polygons.specs.Tables.{row}
 use Rattle.cells.specs.Paths.{witness-at, own-side}
 use Rattle.cells.proofs.Sides.{sum-asked, side-said}
 use Rattle.cells.proofs.side_below.Statement.{statement}
