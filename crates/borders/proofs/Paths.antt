@@ -22,7 +22,7 @@ use Rattle.planes.specs.declared.Plane as struct
 use Rattle.planes.specs.declared.Meeting.{Meeting}
 use Rattle.sections.specs.declared.Witnessed.{Witnessed}
 use Rattle.sections.specs.declared.Witnessed.the-variants.{At, Nothing}
-use Rattle.sections.specs.Tables.{row, rows-down}
+use Rattle.polygons.specs.Tables.{row, rows-down}
 use Rattle.sections.specs.Paths.{Linked, Links, CutTold, is-at, is-nothing}
 use Rattle.cells.specs.Paths.{PathIn, Pushed}
 use Rattle.cells.proofs.Paths.{half-ranged, row-same, linked-same, links-same, pushed-before, pushed-row, pushed-linked}

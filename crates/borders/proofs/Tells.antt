@@ -26,7 +26,7 @@ use Rattle.planes.specs.declared.Plane as struct
 use Rattle.planes.specs.declared.Meeting.{Meeting}
 use Rattle.sections.specs.declared.Witnessed.{Witnessed}
 use Rattle.sections.specs.declared.Witnessed.the-variants.{At, Nothing}
-use Rattle.sections.specs.Tables.{rows-down}
+use Rattle.polygons.specs.Tables.{rows-down}
 use Rattle.sections.specs.Paths.{CutIn, CutTold}
 use Rattle.tables.specs.Rows.{plane-at}
 use Rattle.walks.specs.Standing.{list, Stands}

@@ -26,7 +26,7 @@ use Rattle.scope.specs.Text.{operation-code}
 use Rattle.theory.specs.Cells.Path.{OnKept}
 use Rattle.theory.specs.Forms.OnPlane.{Along}
 use Rattle.planes.specs.declared.Meeting.{Meeting}
-use Rattle.sections.specs.Tables.{row, rows-down}
+use Rattle.polygons.specs.Tables.{row, rows-down}
 use Rattle.sections.specs.Paths.{Links}
 use Rattle.tables.specs.Rows.{plane-at}
 use Rattle.walks.specs.Standing.{rows-of, offset, list, plane-number, RowIs}

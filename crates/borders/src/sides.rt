@@ -33,7 +33,7 @@ pub const FRONTS: u16 = 0;
 
 // ---- a row and the plane
 
-// Writes row `depth` of a path: a half-space, and no witness.
+// Writes row `depth` of a path: a half-space with its link, and no witness.
 fn keep(path: &mut [i64], depth: usize, h: Plane)
     requires { ⌜ PathIn (now path) depth × (depth * 9 + 9 ≤ length (now path)) ⌝ }
     ensures { λ _. ⌜ Pushed (now (path .entry)) (now (path .exit)) depth h nowhere ⌝ }
