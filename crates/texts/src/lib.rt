@@ -5,8 +5,4 @@ mod merges;
 mod normals;
 
 pub use merges::merge_lent;
-pub use merges::merge_read;
-pub use merges::merge_with;
 pub use normals::normal_lent;
-pub use normals::normal_read;
-pub use normals::normal_with;
