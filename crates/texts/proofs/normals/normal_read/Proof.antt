@@ -41,13 +41,13 @@ written-requires c κs =
     record { answer = n .ensures .answer; gave = form-gave (h .solid) (h .result) (n .ensures) (n .kept .1 .1 .1 .0) (n .kept .1 .1 .1 .1 .0); enough = omega (arith, h .result .enough, n .kept .1 .1 .1 .1 .1 .0) }
 
 same-length : tie.Need-same-length
-same-length c = c .before .before .before .before .before .before .before .before .before .before .before .before .normal .kept .1 .1 .1 .0
+same-length c = search needs
 
 same-length-2 : tie.Need-same-length-2
-same-length-2 c = c .before .before .before .before .before .before .before .before .before .before .before .before .normal .kept .1 .1 .1 .1 .0
+same-length-2 c = search needs
 
 same-length-3 : tie.Need-same-length-3
-same-length-3 c = c .before .before .before .written .kept .1 .1 .1 .0
+same-length-3 c = search needs
 
 same-length-4 : tie.Need-same-length-4
 same-length-4 c = search needs
