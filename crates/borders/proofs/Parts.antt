@@ -1,4 +1,4 @@
--- On which sides of another plane a plane has points of a cell: what `parted` asks of the sections, and what they tell.
+-- On which sides of another plane a plane has points of a cell: what `parted` asks of the cuts, and what they tell.
 --     cut-in                 what `cut` is given
 --     half-said              what it says of a half of the cell
 --     told-behind            where the plane has no point in front

@@ -28,7 +28,7 @@ use mir.Val.{toZ}
 use mir.Facts.{toZ-ofZ}
 use Rattle.whole.specs.Expr.{#, neg}
 use Rattle.whole.specs.Solve.{nums}
-use Rattle.whole.specs.Lin.{lin, _⊢_, _≺_, _≋_, _≦_}
+use Rattle.whole.specs.Lin.{lin, _⊢_, _≺_, _≋_}
 use Rattle.whole.specs.Order.{lt-not-lt}
 use Rattle.whole.specs.Tests.{differ, is-true, is-false}
 use Rattle.whole.specs.Sign.{Sign, nought, sgn}
@@ -52,14 +52,29 @@ use Rattle.planes.specs.declared.Plane as struct
 use Rattle.planes.specs.declared.Meeting.{Meeting}
 use Rattle.cuts.specs.declared.Witnessed.{Witnessed}
 use Rattle.cuts.specs.declared.Witnessed.the-variants.{At, Nothing as Missed}
+use Rattle.cells.specs.declared.Beside.the-variants as beside
 use Rattle.polygons.specs.Tables.{four-at, row, rows-down}
 use Rattle.cuts.specs.Paths.{Holds, Linked, Links, Witness, CutIn, CutTold, is-at, is-nothing}
 use Rattle.polygons.proofs.Kept.{k}
-use Rattle.cuts.proofs.Asking.{holds-front, row-in}
+use Rattle.cuts.proofs.Asking.{holds-front, holds-on, row-in}
 use Rattle.cells.specs.Paths.{witness-at, PathIn, LinkTold, nine, Pushed, FoundRow, BesideTold, BesideIn, OnPath, at-box, below, Classes, is-cut, is-front, is-behind, own-side, by-sign, side-by, missed-by, MissedIn, ClassifyIn}
 use Rattle.cells.specs.declared.Classified.{Classified}
 use Rattle.cells.specs.declared.Beside as Beside
 use Rattle.cells.specs.declared.Classified.the-variants.{Cut, Front, Behind}
+
+-- ---- what is found beside a plane, told apart
+
+pub front-not-behind : {A : Type 0} → beside.Front ≡ beside.Behind → A
+front-not-behind e = differ (cc)
+
+pub behind-not-front : {A : Type 0} → beside.Behind ≡ beside.Front → A
+behind-not-front e = differ (cc)
+
+pub neither-not-front : {A : Type 0} → beside.Neither ≡ beside.Front → A
+neither-not-front e = differ (cc)
+
+pub neither-not-behind : {A : Type 0} → beside.Neither ≡ beside.Behind → A
+neither-not-behind e = differ (cc)
 
 -- ---- the rows of a path
 
@@ -212,9 +227,6 @@ on-same {path = path} {path′ = path′} (below {d = d} {c = c} h s g q e w l) 
     below (on-same h (λ i l. f i (omega arith))) s g q (r ∙ e) (subst (Witness g c) (sym x) w) (linked-same f d (omega arith) l)
 
 -- the link of a row to be written: past the row before it, if that one holds h, or none
-holds-on : {q p r : Plane} → Holds q p → Holds p r → Holds q r
-holds-on {q} {p} {r} f g = record { same-x = f .same-x ∙ g .same-x; same-y = f .same-y ∙ g .same-y; same-z = f .same-z ∙ g .same-z; wider = lin (nums 3) (λ a b c. (a ≦ b) ∷ (b ≦ c) ∷ [] ⊢ a ≦ c) (omega arith) (r .w) (p .w) (q .w) (g .wider) (f .wider) }
-
 module _ {path : List ℤ} {d : ℕ} (a : PathIn path d) where
   pub link-none : (h : Plane) → LinkTold path d h (toZ w64 (d * 9))
   link-none h = record { to = d; back = omega arith; link = toZ-ofZ {w = w64} {z = pos (d * 9)} (record { sfits = omega (arith, a .few) }); holds = λ j l b. absurd (omega arith) }

@@ -1,5 +1,6 @@
 -- The code's side of a missed plane: its tests and sums, on numbers read back from their bits, say what the definitions do.
 --     stored-nine, witness-kept   a row of a path, stored number by number, and its witness read
+--     row-fits .. nine-long      the places of that row: they fit, are within the table, and leave it as long as it was
 --     turned-fits, opposite-is   the half-space on the other side
 --     own-yes, own-no            the row's own plane
 --     sum-asked, side-said       the sum at a witness, and its sign
@@ -8,14 +9,14 @@
 use mathlib.Core.Path.{_≡_, refl, sym, ap, subst, _∙_}
 use mathlib.Core.Bool.{true, false}
 use mathlib.Core.List.{List, [], _∷_}
-use Prim.Native.Nat.{ℕ, zero, suc, _+_, _-_, _*_, _<_}
+use Prim.Native.Nat.{ℕ, zero, suc, _+_, _-_, _*_, _^_, _≤_, _<_}
 use native.Mathlib.Omega.{arith}
 use lib.IntN.{ℤ, pos, negsuc, negℤ, _-ℤ_}
 use lib.Signed.{mag}
-use lib.ListN.{getD, set}
+use lib.ListN.{length, length-set, getD, set}
 use lib.Seq.{sets}
 use mir.Syntax.{w64}
-use mir.Val.{SFits}
+use mir.Val.{Fits, SFits}
 use mir.Facts.{toZ-ofZ}
 use Rattle.whole.specs.Expr.{#, _⊖_, neg, con, v}
 use Rattle.whole.specs.Order.{_⋖_, _⩽_}
@@ -63,6 +64,52 @@ stored-nine t i f g h l m n o p q =
     let e7 : i + 7 ≡ suc (suc (suc (suc (suc (suc (suc i)))))) = omega arith in
     let e8 : i + 8 ≡ suc (suc (suc (suc (suc (suc (suc (suc i))))))) = omega arith in
     λ j. set (set (set (set (set (set (set (set (set t i (a j)) (e1 j) (b j)) (e2 j) (c j)) (e3 j) (d j)) (e4 j) (x j)) (e5 j) (y j)) (e6 j) (z j)) (e7 j) (w j)) (e8 j) (u j)
+
+-- the places of a row fit, and so do their bytes
+module _ (t : List ℤ) (d : ℕ) (r : d * 9 + 9 ≤ length t) (few : length t * 8 < 2 ^ 63) where
+  pub row-fits : Fits w64 (d * 9)
+  row-fits = record { fits = omega (arith, r, few) }
+
+  pub row-bytes : Fits w64 (d * 9 * 8)
+  row-bytes = record { fits = omega (arith, r, few) }
+
+  pub place-fits : (i : ℕ) → i < 9 → Fits w64 (d * 9 + i)
+  place-fits i l = record { fits = omega (arith, r, few, l) }
+
+  pub place-bytes : (i : ℕ) → i < 9 → Fits w64 ((d * 9 + i) * 8)
+  place-bytes i l = record { fits = omega (arith, r, few, l) }
+
+-- each place is within the table, whatever was stored before it
+module _ (t : List ℤ) (d : ℕ) (r : d * 9 + 9 ≤ length t) (a b c e x y z w u : ℤ) where
+  pub within-0 : d * 9 < length t
+  within-0 = omega (arith, r)
+
+  pub within-1 : d * 9 + 1 < length (set t (d * 9) (k a))
+  within-1 = simp length-set (omega (arith, r))
+
+  pub within-2 : d * 9 + 2 < length (set (set t (d * 9) (k a)) (d * 9 + 1) (k b))
+  within-2 = simp length-set (omega (arith, r))
+
+  pub within-3 : d * 9 + 3 < length (set (set (set t (d * 9) (k a)) (d * 9 + 1) (k b)) (d * 9 + 2) (k c))
+  within-3 = simp length-set (omega (arith, r))
+
+  pub within-4 : d * 9 + 4 < length (set (set (set (set t (d * 9) (k a)) (d * 9 + 1) (k b)) (d * 9 + 2) (k c)) (d * 9 + 3) (k e))
+  within-4 = simp length-set (omega (arith, r))
+
+  pub within-5 : d * 9 + 5 < length (set (set (set (set (set t (d * 9) (k a)) (d * 9 + 1) (k b)) (d * 9 + 2) (k c)) (d * 9 + 3) (k e)) (d * 9 + 4) (k x))
+  within-5 = simp length-set (omega (arith, r))
+
+  pub within-6 : d * 9 + 6 < length (set (set (set (set (set (set t (d * 9) (k a)) (d * 9 + 1) (k b)) (d * 9 + 2) (k c)) (d * 9 + 3) (k e)) (d * 9 + 4) (k x)) (d * 9 + 5) (k y))
+  within-6 = simp length-set (omega (arith, r))
+
+  pub within-7 : d * 9 + 7 < length (set (set (set (set (set (set (set t (d * 9) (k a)) (d * 9 + 1) (k b)) (d * 9 + 2) (k c)) (d * 9 + 3) (k e)) (d * 9 + 4) (k x)) (d * 9 + 5) (k y)) (d * 9 + 6) (k z))
+  within-7 = simp length-set (omega (arith, r))
+
+  pub within-8 : d * 9 + 8 < length (set (set (set (set (set (set (set (set t (d * 9) (k a)) (d * 9 + 1) (k b)) (d * 9 + 2) (k c)) (d * 9 + 3) (k e)) (d * 9 + 4) (k x)) (d * 9 + 5) (k y)) (d * 9 + 6) (k z)) (d * 9 + 7) (k w))
+  within-8 = simp length-set (omega (arith, r))
+
+  pub nine-long : length (set (set (set (set (set (set (set (set (set t (d * 9) (k a)) (d * 9 + 1) (k b)) (d * 9 + 2) (k c)) (d * 9 + 3) (k e)) (d * 9 + 4) (k x)) (d * 9 + 5) (k y)) (d * 9 + 6) (k z)) (d * 9 + 7) (k w)) (d * 9 + 8) (k u)) ≡ length t
+  nine-long = simp length-set
 
 -- the witness of a row, read
 pub witness-kept : (t : List ℤ) (i : ℕ) → SFits w64 (getD t (i * 9 + 4) (pos 0)) → SFits w64 (getD t (i * 9 + 5) (pos 0)) → SFits w64 (getD t (i * 9 + 6) (pos 0)) → SFits w64 (getD t (i * 9 + 7) (pos 0))

@@ -1,13 +1,18 @@
 -- Bytes written one after the other are written together.
 --     put-more     bytes after bytes
 --     put-line     and LF after them: a line
+--     stored-three, stored-four   the numbers of a row
 use mathlib.Core.Path.{_≡_, refl, sym, ap, _∙_}
 use mathlib.Core.List.{List, [], _∷_, _++_}
 use Prim.Native.Nat.{ℕ, zero, suc, _+_, _*_, _/_, _%_, _<_}
 use native.Mathlib.Nat.{add-zero}
 use native.Mathlib.Omega.{arith}
+use lib.IntN.{ℤ}
 use lib.ListN.{length, set, length-append, length-set}
 use lib.Seq.{sets, length-sets}
+use mir.Syntax.{w64}
+use mir.Val.{SFits, toZ, ofZ}
+use mir.Facts.{toZ-ofZ}
 use Rattle.scope.specs.Planes.{Plane}
 use Rattle.scope.specs.Solids.{entry}
 use Rattle.scope.specs.Text.{hex, hexes, line, unsigned, bytes, head, plane, node-row}
@@ -53,6 +58,22 @@ put-length t at l {t₁} e i c = length-set t₁ i c ∙ ap length e ∙ length-
 pub put-first : (t : List ℕ) (at b : ℕ) → set (set t at (hex (b / 16))) (at + 1) (hex (b % 16)) ≡ sets t at (hexes (b ∷ []))
 unfolding hexes
 put-first t at b = ap (λ n. set (set t at (hex (b / 16))) n (hex (b % 16))) (omega arith)
+
+-- ---- numbers stored one after the other
+
+pub stored-three : (t : List ℕ) (n a b c : ℕ) → set (set (set t n a) (n + 1) b) (n + 2) c ≡ sets t n (a ∷ b ∷ c ∷ [])
+stored-three t n a b c =
+    let e₁ : n + 1 ≡ suc n = omega arith in
+    let e₂ : n + 2 ≡ suc (suc n) = omega arith in
+    λ i. set (set (set t n a) (e₁ i) b) (e₂ i) c
+
+pub stored-four : (t : List ℤ) (n : ℕ) {a b c d : ℤ} → SFits w64 a → SFits w64 b → SFits w64 c → SFits w64 d
+    → set (set (set (set t n (toZ w64 (ofZ w64 a))) (n + 1) (toZ w64 (ofZ w64 b))) (n + 2) (toZ w64 (ofZ w64 c))) (n + 3) (toZ w64 (ofZ w64 d)) ≡ sets t n (a ∷ b ∷ c ∷ d ∷ [])
+stored-four t n f g h l =
+    let e₁ : n + 1 ≡ suc n = omega arith in
+    let e₂ : n + 2 ≡ suc (suc n) = omega arith in
+    let e₃ : n + 3 ≡ suc (suc (suc n)) = omega arith in
+    λ i. set (set (set (set t n (toZ-ofZ f i)) (e₁ i) (toZ-ofZ g i)) (e₂ i) (toZ-ofZ h i)) (e₃ i) (toZ-ofZ l i)
 
 -- ---- numbers that fit
 

@@ -6,15 +6,17 @@ use Prim.Native.Nat.{ℕ, zero, suc}
 use native.Mathlib.Omega.{arith}
 use lib.Dec.{leb, eqb}
 use lib.IntN.{ℤ, pos, negsuc, natAbs, _-ℤ_}
+use lib.Signed.{ltZ}
 use mir.Syntax.{w64}
 use mir.Val.{SFits, toZ, ofZ}
 use mir.Facts.{toZ-ofZ}
 use Rattle.whole.specs.Tests.{_and_, differ, eq-false}
 use Rattle.whole.specs.Expr.{con, v, _⊖_}
+use Rattle.whole.specs.Gcd.{gcd}
 use Rattle.whole.specs.Bounds.{Within, w-up}
 use Rattle.whole.specs.Code.{arg, in64, code-fits, code-is}
 use Rattle.whole.specs.Vec.{det3, dot4}
-use Rattle.whole.specs.Sign.{Sign, minus, nought, plus, _·_}
+use Rattle.whole.specs.Sign.{Sign, minus, nought, plus, sgn, _·_}
 use Rattle.scope.specs.Limits.{most-abc, most-d}
 use Rattle.scope.specs.Planes as scope
 use Rattle.planes.specs.Values.{triple, quad, side-is, side-sign, side-then, side-times}
@@ -199,3 +201,23 @@ module _ {a b c d : ℤ} (f : SFits w64 a) (g : SFits w64 b) (h : SFits w64 c) (
 
   pub point-said : {r t : Bool} → r ≡ scope.point-in-range (quad (k a) (k b) (k c) (k d)) → r ≡ t → scope.point-in-range (quad a b c d) ≡ t
   point-said e l = ap scope.point-in-range (sym quad-kept) ∙ sym e ∙ l
+
+  -- the tests, of the numbers themselves
+  pub range-kept : {r : Bool} → r ≡ scope.in-range (quad (k a) (k b) (k c) (k d)) → r ≡ scope.in-range (quad a b c d)
+  range-kept e = e ∙ ap scope.in-range quad-kept
+
+  pub point-kept : {r : Bool} → r ≡ scope.point-in-range (quad (k a) (k b) (k c) (k d)) → r ≡ scope.point-in-range (quad a b c d)
+  point-kept e = e ∙ ap scope.point-in-range quad-kept
+
+  -- the lead by the signs of three numbers, and the common divisor by the sizes of four
+  pub lead-by : {r s t u w : Side} → r ≡ side-is (sgn (k a)) → s ≡ side-is (sgn (k b)) → t ≡ side-is (sgn (k c)) → u ≡ side-then s t → w ≡ side-then r u → w ≡ side-is (scope.lead (quad a b c d))
+  unfolding scope.lead
+  lead-by er es et eu ew = cc (er, es, et, eu, ew, toZ-ofZ f, toZ-ofZ g, toZ-ofZ h, then-is (sgn b) (sgn c), then-is (sgn a) (scope.then (sgn b) (sgn c)))
+
+  pub common-by : {p q r s u w x : ℕ} → p ≡ natAbs (k a) → q ≡ natAbs (k b) → r ≡ natAbs (k c) → s ≡ natAbs (k d) → u ≡ gcd r s → w ≡ gcd q u → x ≡ gcd p w → eqb x 1 ≡ eqb (scope.common (quad a b c d)) 1
+  unfolding scope.common
+  common-by ep eq er es eu ew ex = cc (ep, eq, er, es, eu, ew, ex, toZ-ofZ f, toZ-ofZ g, toZ-ofZ h, toZ-ofZ i)
+
+-- the order of two numbers that were read back
+pub order-said : {a b : ℤ} {t : Bool} → SFits w64 a → SFits w64 b → ltZ (k a) (k b) ≡ t → ltZ a b ≡ t
+order-said f g e = cc (e, toZ-ofZ f, toZ-ofZ g)

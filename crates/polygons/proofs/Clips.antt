@@ -1,4 +1,5 @@
 -- The clip of the polygon in a table: what its corners put out are the corners of document 01's clip.
+--     same-not-gone .. cut-count   the variants of `Clipped` told apart: each is asked here, where nothing else is in sight, and cited where much is
 --     getD-read, indices-length, indices-at   the corners and indices of a table, by their place
 --     module over `ClipIn`: what the functions of a clip are given, and what their answers say
 --     clipped-polygon   after a clip the table holds the polygon of one clip more
@@ -11,6 +12,7 @@ use lib.Dec.{T}
 use lib.IntN.{ℤ, pos}
 use lib.ListN.{length, getD, length-append, List·getD-append}
 use lib.Seq.{getD-at}
+use Rattle.whole.specs.Tests.{differ}
 use Rattle.whole.specs.Sign.{Sign, plus, sgn}
 use Rattle.whole.specs.Lists.{Each, Each.none, Each._and_, each-app, each-map, map-length}
 use Rattle.scope.specs.Planes.{Plane, at, in-range}
@@ -24,8 +26,32 @@ use Rattle.planes.specs.declared.Plane as struct
 use Rattle.polygons.specs.Values.{sign-of}
 use Rattle.polygons.specs.Tables.{look, corner-at, read, indices, said-at, last-to, put-all}
 use Rattle.polygons.specs.Asked.{Found, Region, Polygon, side-of, SideIn, SidesIn, Looked, EmitIn, Emitted, ClipIn, clip-of, ClippedOn}
+use Rattle.polygons.specs.declared.Clipped.the-variants.{Same, Cut, Gone}
 use Rattle.polygons.proofs.Rules.{sign-back, code-small}
 use Rattle.polygons.proofs.Cells.{read-length, read-same, read-none}
+
+-- ---- what a clip says, told apart
+
+pub same-not-gone : {A : Type 0} → Same ≡ Gone → A
+same-not-gone e = differ (cc)
+
+pub same-not-cut : {A : Type 0} {m : ℕ} → Same ≡ Cut m → A
+same-not-cut e = differ (cc)
+
+pub gone-not-same : {A : Type 0} → Gone ≡ Same → A
+gone-not-same e = differ (cc)
+
+pub gone-not-cut : {A : Type 0} {m : ℕ} → Gone ≡ Cut m → A
+gone-not-cut e = differ (cc)
+
+pub cut-not-same : {A : Type 0} {m : ℕ} → Cut m ≡ Same → A
+cut-not-same e = differ (cc)
+
+pub cut-not-gone : {A : Type 0} {m : ℕ} → Cut m ≡ Gone → A
+cut-not-gone e = differ (cc)
+
+pub cut-count : {m n : ℕ} → Cut m ≡ Cut n → m ≡ n
+cut-count e = cc
 
 -- ---- a table's corners, by their place
 
@@ -209,6 +235,10 @@ module _ (s : Plane) (hs : List ℤ) (width k : ℕ) (t : List ℤ) (n : ℕ) (o
 
       pub clip-cut : (out′ : List ℤ) (r : ℕ) → Emitted s plane-of k t n sides out′ r → (r ≤ 134) × (read out′ r ≡ corners s plane-of clipped)
       clip-cut out′ r q = (omega (arith, q .count, put-few), q .read-is ∙ put-clip)
+
+      -- the same at a number that is the count
+      pub clip-cut-at : (out′ : List ℤ) (r : ℕ) → Emitted s plane-of k t n sides out′ r → (m : ℕ) → r ≡ m → (m ≤ 134) × (read out′ m ≡ corners s plane-of clipped)
+      clip-cut-at out′ r q m e = subst (λ m. (m ≤ 134) × (read out′ m ≡ corners s plane-of clipped)) e (clip-cut out′ r q)
 
   -- ---- left in the first table
 

@@ -1,20 +1,21 @@
 -- Answers: the orders of refusal that a call's own definition decides, what is left in lent tables, and document 01's example of the merge program.
-use mathlib.Core.Path.{_≡_, refl}
-use mathlib.Core.Bool.{Bool, true, false, not}
+use mathlib.Core.Path.{_≡_, refl, sym, ap, subst, _∙_}
+use mathlib.Core.Bool.{Bool, true, false, not, cond}
 use mathlib.Core.List.{List, [], _∷_}
-use Prim.Native.Nat.{ℕ, zero, suc}
+use Prim.Native.Nat.{ℕ, zero, suc, _+_}
+use native.Mathlib.Omega.{arith}
 use lib.Dec.{T, leb, eqb}
-use lib.ListN.{replicate}
+use lib.ListN.{length, replicate}
 use lib.IntN.{pos}
-use Rattle.whole.specs.Tests.{_and_}
+use Rattle.whole.specs.Tests.{_and_, and-make, and-split, lt-true, lt-false}
 use Rattle.whole.specs.Gcd.{euclid, gcd}
-use Rattle.scope.specs.Limits.{most-work, stated}
+use Rattle.scope.specs.Limits.{most-work, most-planes, most-nodes, stated}
 use Rattle.scope.specs.Planes.{Plane, Point, at, in-range, lead, common, fault, half-fault, coincident, before, equal, point-in-range}
-use Rattle.scope.specs.Solids.{IN, OUT, Tree, leaf, node, rows, code, post, insert, ascending, place, tables-of, marked, ON, reply}
+use Rattle.scope.specs.Solids.{IN, OUT, Tree, leaf, node, rows, code, planes, post, insert-by, insert, ascending, place, tables-of, marked, ON, reply}
 use Rattle.scope.specs.Cells.{intersection, box}
 use Rattle.scope.specs.Section.{clip, clips, section}
 use Rattle.scope.specs.Text.{digit, hex, pairs, hexes, lines, content, line, word, high, low, long, high-word, low-word, signed, unsigned, plane-of, frame, frames, bytes, written, refusal-line, solid-frames, text}
-use Rattle.scope.specs.Judging.{take-child, add-row, uses, all-used, root-ok, judge-head, step, read-solid, judge, plane-table, node-table, Lent, judge-lent, order, known, opening, judge-merge}
+use Rattle.scope.specs.Judging.{Rooms, take-child, add-row, uses, all-used, root-ok, judge-head, step, read-solid, judge, plane-table, node-table, Lent, judge-lent, order, known, opening, judge-merge}
 use Rattle.scope.specs.Answers.{Answer, given, refused, flat-planes, flat-nodes, plane-numbers, node-numbers, filled, left, plane-answer, read-answer, write-answer, section-by, quads, section-answer, point-ok, PointAnswer, enough-work, told, bad-point, fits-rooms, tree-answer, merged, operand-rooms, printed, MergeText, merged-text}
 use Rattle.scope.proofs.Kit.{pl, m, every, same-numbers, chars-from, chars}
 use Rattle.scope.proofs.Cells.{px, py, A, B, a-and-b}
@@ -103,9 +104,53 @@ chain (suc n) = node (pl (pos 1) (pos 0) (pos 0) (pos n)) (leaf IN) (chain n)
 trees : List (ℕ × ℕ × ℕ × ℕ)
 trees = (64, 64, 64, 0) ∷ (65, 64, 64, 8) ∷ (65, 128, 65, 9) ∷ (65, 128, 64, 8) ∷ (3, 2, 3, 8) ∷ (0, 0, 0, 0) ∷ []
 
+-- a chain of n planes has n rows, and its plane list is those planes from the last on: each is put after those below it
+from : ℕ → ℕ → List Plane
+from a zero = []
+from a (suc k) = pl (pos 1) (pos 0) (pos 0) (pos a) ∷ from (suc a) k
+
+from-length : (a k : ℕ) → length (from a k) ≡ k
+unfolding from
+from-length a zero = refl
+from-length a (suc k) = ap suc (from-length (suc a) k)
+
+put-last : (k a n : ℕ) → a + k ≡ n → insert (pl (pos 1) (pos 0) (pos 0) (pos n)) (from a k) ≡ from a (suc k)
+unfolding before insert from
+put-last zero a n e = let f : n ≡ a = omega (arith, e) in ap (λ m. pl (pos 1) (pos 0) (pos 0) (pos m) ∷ []) f
+put-last (suc k) a n e =
+    λ i. insert-by (lt-false n a (omega (arith, e)) i) (lt-true a n (omega (arith, e)) i) (pl (pos 1) (pos 0) (pos 0) (pos n)) (pl (pos 1) (pos 0) (pos 0) (pos a)) (from (suc a) k) (put-last k (suc a) n (omega (arith, e)) i)
+
+chain-list : (n : ℕ) → ascending (planes (chain n)) ≡ from 0 n
+unfolding chain ascending from
+chain-list zero = refl
+chain-list (suc n) = ap (insert (pl (pos 1) (pos 0) (pos 0) (pos n))) (chain-list n) ∙ put-last n 0 n (omega arith)
+
+chain-planes : (n : ℕ) → length (ascending (planes (chain n))) ≡ n
+chain-planes n = ap length (chain-list n) ∙ from-length 0 n
+
+chain-rows : (n : ℕ) → rows (chain n) ≡ n
+unfolding chain rows
+chain-rows zero = refl
+chain-rows (suc n) = omega (arith, chain-rows n)
+
+-- the answer for a tree of r rows and l planes; for a chain it goes by n alone
+abbrev answer-by : Rooms → Tree → ℕ → ℕ → ℕ → Bool
+answer-by s t m r l = eqb (number (cond (leb r most-nodes and leb r (s .node-rows) and leb l (s .plane-rows)) (cond (leb l most-planes) (given (tables-of t)) (refused 9)) (refused 8))) m
+
+chain-said : (s : Rooms) (n m : ℕ) → T (answer-by s (chain n) m n n) → T (eqb (number (tree-answer s (chain n))) m)
+chain-said s n m t = subst (λ (k : ℕ × ℕ). T (answer-by s (chain n) m (k .0) (k .1))) (λ i. (sym (chain-rows n) i, sym (chain-planes n) i)) t
+
+every-of : {A : Type 0} (f g : A → Bool) → ((c : A) → T (f c) → T (g c)) → (l : List A) → T (every f l) → T (every g l)
+unfolding every
+every-of f g h [] t = tt
+every-of f g h (c ∷ l) t = and-make (g c) (every g l) (h c (and-split (f c) (every f l) t .0)) (every-of f g h l (and-split (f c) (every f l) t .1))
+
 the-trees : T (every (λ c. eqb (number (tree-answer (record { plane-rows = c .1; node-rows = c .2 }) (chain (c .0)))) (c .3)) trees)
-unfolding every trees chain rows before insert ascending
-the-trees = tt
+unfolding every trees
+the-trees =
+    every-of (λ (c : ℕ × ℕ × ℕ × ℕ). answer-by (record { plane-rows = c .1; node-rows = c .2 }) (chain (c .0)) (c .3) (c .0) (c .0))
+    (λ (c : ℕ × ℕ × ℕ × ℕ). eqb (number (tree-answer (record { plane-rows = c .1; node-rows = c .2 }) (chain (c .0)))) (c .3))
+    (λ c. chain-said (record { plane-rows = c .1; node-rows = c .2 }) (c .0) (c .3)) trees tt
 
 -- 1,000 rows are given, 1,001 are 8 though more are lent
 deep : ℕ → Tree

@@ -1,18 +1,20 @@
 -- Texts: document 01's example, read and written again, and refusals with number and line.
-use mathlib.Core.Bool.{Bool, true, false}
+use mathlib.Core.Path.{_≡_, refl, sym, ap, subst}
+use mathlib.Core.Bool.{Bool, true, false, cond}
 use mathlib.Core.List.{List, [], _∷_}
-use Prim.Native.Nat.{ℕ}
+use Prim.Native.Nat.{ℕ, zero, suc}
 use Prim.Native.String.{String}
-use lib.Dec.{T, eqb}
-use lib.ListN.{replicate}
+use lib.Dec.{T, leb, eqb}
+use lib.ListN.{length, replicate, length-replicate}
 use lib.IntN.{ℤ, pos}
 use Rattle.whole.specs.Tests.{_and_}
 use Rattle.whole.specs.Gcd.{euclid, gcd}
+use Rattle.scope.specs.Limits.{most-text}
 use Rattle.scope.specs.Planes.{Plane, in-range, lead, common, fault, before, equal}
 use Rattle.scope.specs.Solids.{IN, OUT, Tree, leaf, node, rows, code, post, insert, ascending, place, Tables, tables, tables-of}
 use Rattle.scope.specs.Cells.{union, intersection, difference}
-use Rattle.scope.specs.Text.{digit, hex, pairs, hexes, lines, content, line, word, high, low, long, high-word, low-word, signed, unsigned, operation, plane-of, frame, frames, bytes, written, refusal-line, solid-frames, text, text-of, operation-code}
-use Rattle.scope.specs.Judging.{take-child, add-row, uses, all-used, root-ok, Step, go, done, stop, judge-head, step, read-solid, Verdict, accepted, refusal, judge, plane-table, node-table, Lent, judge-lent, MergeInput, order, order-refused, known, opening, judge-merge}
+use Rattle.scope.specs.Text.{torn, put, bad, each, digit, hex, pairs, hexes, lines, content, line, word, high, low, long, high-word, low-word, signed, unsigned, operation, plane-of, frame, frames, bytes, written, refusal-line, solid-frames, text, text-of, operation-code}
+use Rattle.scope.specs.Judging.{Rooms, fresh, finish, take-child, add-row, uses, all-used, root-ok, Step, go, done, stop, judge-head, step, read-solid, Verdict, accepted, refusal, judge, plane-table, node-table, Lent, judge-lent, MergeInput, order, order-refused, known, opening, judge-merge}
 use Rattle.scope.proofs.Kit.{pl, every, same-planes, same-numbers, chars-from, chars}
 
 -- ---- read, and written again
@@ -100,10 +102,35 @@ the-tables = tt
 long-text : ℕ → List ℕ
 long-text n = replicate n 48
 
+-- such a text is one torn line, whatever its length, so no example reads it character by character
+torn-lines : (n : ℕ) → lines (long-text (suc n)) ≡ torn (long-text (suc n)) ∷ []
+unfolding long-text lines
+torn-lines zero = refl
+torn-lines (suc n) = ap (put 48) (torn-lines n)
+
+torn-frames : (n : ℕ) → frames (long-text (suc n)) ≡ bad ∷ []
+unfolding frames content
+torn-frames n = ap each (torn-lines n)
+
+long-length : (n : ℕ) → length (long-text n) ≡ n
+unfolding long-text
+long-length n = length-replicate n 48
+
+long-judged : (s : Rooms) (n : ℕ) → judge s (long-text (suc n)) ≡ cond (leb (suc n) most-text) (finish (read-solid s fresh 1 (bad ∷ []))) (refusal 3 0)
+unfolding judge
+long-judged s n = λ i. cond (leb (long-length (suc n) i) most-text) (finish (read-solid s fresh 1 (torn-frames n i))) (refusal 3 0)
+
+long-order : (s : Rooms) (n : ℕ) → judge-merge s (long-text (suc n)) ≡ cond (leb (suc n) most-text) (opening s (bad ∷ [])) (order-refused 3 0)
+unfolding judge-merge
+long-order s n = λ i. cond (leb (long-length (suc n) i) most-text) (opening s (torn-frames n i)) (order-refused 3 0)
+
 the-lengths : T (says (judge (record { plane-rows = 1; node-rows = 2 }) (long-text 32768)) 1 1 and says (judge (record { plane-rows = 1; node-rows = 2 }) (long-text 32769)) 3 0
     and says-order (judge-merge (record { plane-rows = 1; node-rows = 2 }) (long-text 32768)) 1 1 and says-order (judge-merge (record { plane-rows = 1; node-rows = 2 }) (long-text 32769)) 3 0)
-unfolding long-text lines content frames step read-solid judge opening judge-merge
-the-lengths = tt
+unfolding step read-solid opening
+the-lengths =
+    let s : Rooms = record { plane-rows = 1; node-rows = 2 } in
+    subst (λ (v : Verdict × Verdict × MergeInput × MergeInput). T (says (v .0) 1 1 and says (v .1) 3 0 and says-order (v .2) 1 1 and says-order (v .3) 3 0))
+    (λ i. (sym (long-judged s 32767) i, sym (long-judged s 32768) i, sym (long-order s 32767) i, sym (long-order s 32768) i)) tt
 
 abbrev goes-on : Step → Bool
 goes-on (go s) = true

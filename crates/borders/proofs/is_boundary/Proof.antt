@@ -1,4 +1,5 @@
 -- `borders::is_boundary` meets its contract: the four walks from the box tell it (proofs/Tells). Assumes nothing.
+use mathlib.Core.Path.{refl}
 use native.Mathlib.Omega.{arith}
 use Rattle.borders.proofs.Tells.{own-few, cut-in, told-missed, begun-in, told-walked}
 use borrow.Author.Needs.{needs}
@@ -18,13 +19,13 @@ enum-told-2 : tie.Need-enum-told-2
 enum-told-2 c = search needs
 
 same-length : tie.Need-same-length
-same-length c = search needs
+same-length c = refl
 
 same-length-2 : tie.Need-same-length-2
-same-length-2 c = search needs
+same-length-2 c = c .before .before .before .before .cut .kept .1 .1 .1 .0
 
 same-length-3 : tie.Need-same-length-3
-same-length-3 c = search needs
+same-length-3 c = c .before .before .before .before .cut .kept .1 .1 .1 .1 .0
 
 returns : tie.Need-returns
 returns c = told-missed (c .before .before .before .before .before .before .before .before .before .before .before .before .pre) (c .before .before .before .before .before .before .before .before .row .ensures) (c .before .before .before .before .cut .ensures) (c .enum-told2 .given .1)
@@ -36,7 +37,7 @@ side-on-requires : tie.Need-side-on-requires
 side-on-requires c κs = begun-in (c .before .before .before .before .before .before .before .before .before .before .before .before .before .before .before .pre) (c .before .before .before .before .before .before .before .before .before .before .before .row .ensures) (c .before .before .before .before .before .before .before .cut .ensures) (c .before .before .before .enum-told .given .1) (c .before .before .before .before .before .before .before .cut .kept .1 .1 .1 .0) (c .before .before .before .before .before .before .before .cut .kept .1 .1 .1 .1 .0)
 
 same-length-4 : tie.Need-same-length-4
-same-length-4 c = search needs
+same-length-4 c = c .before .before .before .side-on .kept .1 .1 .1 .1 .1 .0
 
 same-length-5 : tie.Need-same-length-5
 same-length-5 c = search needs

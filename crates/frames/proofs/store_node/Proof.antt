@@ -1,9 +1,10 @@
 -- `frames::store_node` meets its contract. Assumes nothing.
 use borrow.Author.Needs.{needs}
 use native.Mathlib.Omega.{arith}
-use mathlib.Core.Path.{_≡_}
-use Prim.Native.Nat.{suc, _+_, _*_}
+use Prim.Native.Nat.{_*_}
 use lib.ListN.{length-set}
+use denote.Ref.{now}
+use Rattle.frames.proofs.Writing.{stored-three}
 use Rattle.frames.proofs.store_node.Statement.{statement}
 use Rattle.frames.proofs.store_node.Tie as tie
 
@@ -44,11 +45,7 @@ same-length : tie.Need-same-length
 same-length c = search needs
 
 returns : tie.Need-returns
-returns c =
-    let s = c in
-    let e₁ : 3 * s .args .i + 1 ≡ suc (3 * s .args .i) = omega arith in
-    let e₂ : 3 * s .args .i + 2 ≡ suc (suc (3 * s .args .i)) = omega arith in
-    cc
+returns c = let a = c .args in stored-three (now (a .nodes)) (3 * a .i) (a .n) (a .f) (a .b)
 
 pub store-node-spec : {M : Type 1} → statement M
 store-node-spec =

@@ -1,10 +1,10 @@
 -- `frames::store_plane` meets its contract. Assumes nothing.
 use borrow.Author.Needs.{needs}
 use native.Mathlib.Omega.{arith}
-use mathlib.Core.Path.{_≡_}
-use Prim.Native.Nat.{ℕ, suc, _+_, _*_}
+use Prim.Native.Nat.{_*_}
 use lib.ListN.{length-set}
-use mir.Facts.{toZ-ofZ}
+use denote.Ref.{now}
+use Rattle.frames.proofs.Writing.{stored-four}
 use Rattle.frames.proofs.store_plane.Statement.{statement}
 use Rattle.frames.proofs.store_plane.Tie as tie
 
@@ -57,13 +57,7 @@ same-length : tie.Need-same-length
 same-length c = search needs
 
 returns : tie.Need-returns
-returns c =
-    let s = c in
-    let n : ℕ = 4 * s .args .i in
-    let e₁ : 4 * s .args .i + 1 ≡ suc (4 * s .args .i) = omega arith in
-    let e₂ : 4 * s .args .i + 2 ≡ suc (suc (4 * s .args .i)) = omega arith in
-    let e₃ : 4 * s .args .i + 3 ≡ suc (suc (suc (4 * s .args .i))) = omega arith in
-    cc (toZ-ofZ (s .fits .a), toZ-ofZ (s .fits .b), toZ-ofZ (s .fits .c), toZ-ofZ (s .fits .d))
+returns c = let a = c .args in let f = c .fits in stored-four (now (a .planes)) (4 * a .i) (f .a) (f .b) (f .c) (f .d)
 
 pub store-plane-spec : {M : Type 1} → statement M
 store-plane-spec =

@@ -56,10 +56,10 @@ merge-sound-requires c κs =
     sound-in (o .before .known .ensures) (o .if2 .left) (a .before .before .judge-rows .ensures) (a .enum-told .given .1) (c .before .before .before .before .before .judge-rows2 .ensures) (c .before .before .before .enum-told3 .given .1) (o .before .before .before .before .before .before .pre) (omega (arith, o .before .before .if1 .left))
 
 same-length : tie.Need-same-length
-same-length c = search needs
+same-length c = c .before .before .before .before .merge-sound .kept .1 .1 .1 .1 .1 .1 .1 .0
 
 same-length-2 : tie.Need-same-length-2
-same-length-2 c = search needs
+same-length-2 c = c .before .before .before .before .merge-sound .kept .1 .1 .1 .1 .1 .1 .1 .1 .0
 
 same-length-3 : tie.Need-same-length-3
 same-length-3 c = search needs

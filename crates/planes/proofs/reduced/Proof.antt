@@ -1,7 +1,6 @@
 -- `planes::reduced` meets its contract. Assumes nothing.
 use borrow.Author.Needs.{needs}
-use mir.Facts.{toZ-ofZ}
-use Rattle.scope.specs.Planes.{common}
+use Rattle.planes.proofs.Laws.{common-by}
 use Rattle.planes.proofs.reduced.Statement.{statement}
 use Rattle.planes.proofs.reduced.Tie as tie
 
@@ -27,10 +26,9 @@ common-requires-3 : tie.Need-common-requires-3
 common-requires-3 c κs = search needs
 
 returns : tie.Need-returns
-unfolding common
 returns c =
     let s = c .before .before .before .before .before .before .before in
-    cc (toZ-ofZ (s .fits .a), toZ-ofZ (s .fits .b), toZ-ofZ (s .fits .c), toZ-ofZ (s .fits .d))
+    common-by (s .fits .a) (s .fits .b) (s .fits .c) (s .fits .d) (c .before .before .before .before .before .before .size .ensures) (c .before .before .before .before .before .size2 .ensures) (c .before .before .before .before .size3 .ensures) (c .before .before .before .size4 .ensures) (c .before .before .common .ensures) (c .before .common2 .ensures) (c .common3 .ensures)
 
 pub reduced-spec : {M : Type 1} → statement M
 reduced-spec = tie.close (tie.spec size-requires size-requires-2 size-requires-3 size-requires-4 common-requires common-requires-2 common-requires-3 returns)

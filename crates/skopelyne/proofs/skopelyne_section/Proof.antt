@@ -14,13 +14,13 @@ bounded-requires : tie.Need-bounded-requires
 bounded-requires c κs = search needs
 
 same-length : tie.Need-same-length
-same-length c = search needs
+same-length c = c .before .before .before .before .section .kept .1 .1 .0
 
 same-length-2 : tie.Need-same-length-2
-same-length-2 c = search needs
+same-length-2 c = c .before .before .before .before .section .kept .1 .1 .1 .0
 
 returns : tie.Need-returns
-returns c = record { answer = c .before .before .before .before .section .result; promise = subst (λ p. SectionTold p (now (c .before .before .before .before .before .before .before .args .halves)) (now (c .before .before .before .before .before .before .before .args .bounds)) (c .before .before .before .before .section .last .1 .1 .0) (now (c .before .before .before .before .before .before .before .args .work)) (c .before .before .before .before .section .last .1 .1 .1 .0) (c .before .before .before .before .section .result)) (cc (toZ-ofZ (c .before .before .before .before .before .before .before .fits .a), toZ-ofZ (c .before .before .before .before .before .before .before .fits .b), toZ-ofZ (c .before .before .before .before .before .before .before .fits .c), toZ-ofZ (c .before .before .before .before .before .before .before .fits .d))) (c .before .before .before .before .section .ensures); number = c .bounded .ensures .0; count = c .bounded .ensures .1 }
+returns c = record { answer = c .before .before .before .before .section .result; promise = subst (λ p. SectionTold p (now (c .before .before .before .before .before .before .before .args .halves)) (now (c .before .before .before .before .before .before .before .args .bounds)) (c .before .before .before .before .section .last .1 .1 .0) (now (c .before .before .before .before .before .before .before .args .work)) (c .before .before .before .before .section .last .1 .1 .1 .0) (c .before .before .before .before .section .result)) (λ i. record { a = toZ-ofZ (c .before .before .before .before .before .before .before .fits .a) i; b = toZ-ofZ (c .before .before .before .before .before .before .before .fits .b) i; c = toZ-ofZ (c .before .before .before .before .before .before .before .fits .c) i; d = toZ-ofZ (c .before .before .before .before .before .before .before .fits .d) i }) (c .before .before .before .before .section .ensures); number = c .bounded .ensures .0; count = c .bounded .ensures .1 }
 
 pub skopelyne-section-spec : {M : Type 1} → statement M
 skopelyne-section-spec =

@@ -3,7 +3,6 @@ use Prim.Native.Nat.{_≤_}
 use native.Mathlib.Omega.{arith}
 use denote.Ref.{now}
 use Rattle.solids.proofs.Fitted.{sound-few, sound-writes, fitted-short, fitted-whole}
-use borrow.Author.Needs.{needs}
 use Rattle.solids.proofs.put_text.Statement.{statement}
 use Rattle.solids.proofs.put_text.Tie as tie
 
@@ -30,7 +29,7 @@ put-solid-requires : tie.Need-put-solid-requires
 put-solid-requires c κs = let a = c .before .before .before .before .before .before .args in sound-writes (now (a .planes)) (now (a .nodes)) (a .s) (now (a .text)) (c .before .before .before .before .before .before .pre .0) (omega (arith, c .before .if1 .left))
 
 same-length : tie.Need-same-length
-same-length c = search needs
+same-length c = c .before .before .put-solid .kept .0
 
 returns-2 : tie.Need-returns-2
 returns-2 c = let a = c .before .before .before .before .before .before .before .before .before .args in fitted-whole (now (a .planes)) (now (a .nodes)) (a .s) (now (a .text)) (c .before .before .before .before .before .before .before .before .before .pre .0) (omega (arith, c .before .before .before .before .if1 .left)) (c .before .before .before .before .before .before .before .before .before .pre .1) (c .before .before .put-solid .ensures)

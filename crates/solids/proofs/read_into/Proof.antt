@@ -21,13 +21,13 @@ finished-requires : tie.Need-finished-requires
 finished-requires c κs = let a = c .before .before .before .before .before .before .before .before .before .before .before .before .args in solid-inside (now (a .text)) 0 1 (rooms (now (a .planes)) (now (a .nodes))) (c .before .before .before .before .read-solid .last .1 .1 .1 .0) (c .before .before .before .before .read-solid .last .1 .1 .1 .1 .0) (c .before .before .before .before .read-solid .result) (c .before .before .before .before .read-solid .ensures)
 
 same-length : tie.Need-same-length
-same-length c = search needs
+same-length c = c .before .before .before .before .before .read-solid .kept .1 .1 .1 .0
 
 same-length-2 : tie.Need-same-length-2
-same-length-2 c = search needs
+same-length-2 c = c .before .before .before .before .before .read-solid .kept .1 .1 .1 .1 .0
 
 same-length-3 : tie.Need-same-length-3
-same-length-3 c = search needs
+same-length-3 c = c .before .before .before .before .before .read-solid .kept .1 .1 .1 .1 .1 .0
 
 returns-3 : tie.Need-returns-3
 returns-3 c = let a = c .before .before .before .before .before .before .before .before .before .before .before .before .before .args in into-told (now (a .text)) (rooms (now (a .planes)) (now (a .nodes))) (length (now (a .work))) (omega (arith, c .before .before .before .before .before .before .before .before .before .before .if1 .left)) (omega (arith, c .before .before .before .before .before .before .before .before .before .if2 .left)) (c .before .before .before .before .before .read-solid .last .1 .1 .1 .0) (c .before .before .before .before .before .read-solid .last .1 .1 .1 .1 .0) (c .finished .ensures) (c .before .before .before .before .before .read-solid .ensures)

@@ -26,10 +26,10 @@ put-text-requires c κs =
     (judged-sound (now (a .planes)) (now (a .nodes)) (a .root) (length (now (a .work))) (c .before .before .s .given .0 .0) (sym (c .before .before .before .before .before .judge .ensures .exact) ∙ c .before .before .s .given .1), cleared 0 (now (a .text)) (c .before .before .before .before .before .before .before .before .before .clear-text .last .0) (c .before .before .before .before .before .before .before .before .before .clear-text .ensures))
 
 same-length : tie.Need-same-length
-same-length c = search needs
+same-length c = c .before .before .before .before .before .before .before .before .clear-text .kept .0
 
 same-length-2 : tie.Need-same-length-2
-same-length-2 c = search needs
+same-length-2 c = c .before .before .before .before .judge .kept .1 .1 .1 .0
 
 returns : tie.Need-returns
 returns c = let a = c .before .before .before .before .before .before .before .before .before .before .before .before .args in write-refused (now (a .planes)) (now (a .nodes)) (a .root) (length (now (a .work))) refl (sym (c .before .before .before .before .judge .ensures .exact) ∙ c .before .k .given .1) (c .before .before .before .before .before .before .before .before .clear-text .ensures) (c .before .before .before .before .judge .ensures .zeros)
@@ -38,7 +38,7 @@ same-length-3 : tie.Need-same-length-3
 same-length-3 c = search needs
 
 same-length-4 : tie.Need-same-length-4
-same-length-4 c = search needs
+same-length-4 c = c .before .before .before .before .before .before .before .before .judge .kept .1 .1 .1 .0
 
 returns-2 : tie.Need-returns-2
 returns-2 c =

@@ -79,13 +79,13 @@ form-cell-enum-told-2 : (t : ℕ) → form-cell-lts.Need-enum-told-2 (cell-calls
 form-cell-enum-told-2 t c = search needs
 
 form-cell-same-length : (t : ℕ) → form-cell-lts.Need-same-length (cell-calls t) (form-cell-at t) form-cell.Post
-form-cell-same-length t c = search needs
+form-cell-same-length t c = c .before .before .before .before .before .before .kind-of .kept .1 .1 .1 .1 .1 .0
 
 form-cell-same-length-2 : (t : ℕ) → form-cell-lts.Need-same-length-2 (cell-calls t) (form-cell-at t) form-cell.Post
-form-cell-same-length-2 t c = search needs
+form-cell-same-length-2 t c = c .before .before .before .before .before .before .kind-of .kept .1 .1 .1 .1 .1 .1 .1 .0
 
 form-cell-same-length-3 : (t : ℕ) → form-cell-lts.Need-same-length-3 (cell-calls t) (form-cell-at t) form-cell.Post
-form-cell-same-length-3 t c = search needs
+form-cell-same-length-3 t c = c .before .before .before .before .before .before .kind-of .kept .1 .1 .1 .1 .1 .1 .1 .1 .0
 
 form-cell-returns : (t : ℕ) → form-cell-lts.Need-returns (cell-calls t) (form-cell-at t) form-cell.Post
 form-cell-returns t c = form-uniform (c .before .before .before .before .before .before .before .before .before .before .before .before .before .before .before .pre .1) (c .before .before .before .before .before .before .kind-of .ensures) (c .before .m .given .1)
@@ -106,7 +106,7 @@ form-cell-returns-2 : (t : ℕ) → form-cell-lts.Need-returns-2 (cell-calls t) 
 form-cell-returns-2 t c = form-split (c .before .before .before .before .before .before .before .before .before .before .before .before .before .before .before .before .before .before .before .before .before .before .before .before .before .before .before .before .before .before .before .before .before .pre .1) (c .before .before .before .before .before .before .before .before .before .before .before .before .before .before .before .before .before .before .before .before .before .before .before .before .kind-of .ensures) (c .before .before .before .before .before .before .before .before .before .before .before .before .before .before .before .before .before .before .before .enum-told .given .1) (c .before .before .before .before .before .before .before .before .before .before .before .before .before .before .before .first-cut .ensures) (c .before .before .before .before .before .before .before .before .before .before .before .place .given .1) (c .before .before .before .before .before .form-halves .ensures)
 
 form-cell-same-length-8 : (t : ℕ) → form-cell-lts.Need-same-length-8 (cell-calls t) (form-cell-at t) form-cell.Post
-form-cell-same-length-8 t c = search needs
+form-cell-same-length-8 t c = c .before .before .before .before .before .before .before .before .before .before .before .before .before .kind-of .kept .1 .1 .1 .1 .1 .0
 
 form-cell-same-length-9 : (t : ℕ) → form-cell-lts.Need-same-length-9 (cell-calls t) (form-cell-at t) form-cell.Post
 form-cell-same-length-9 t c = search needs
@@ -158,7 +158,7 @@ form-halves-same-length : (t : ℕ) → form-halves-lts.Need-same-length (halves
 form-halves-same-length t c = search needs
 
 form-halves-same-length-2 : (t : ℕ) → form-halves-lts.Need-same-length-2 (halves-calls t) (form-halves-at t) form-halves.Post
-form-halves-same-length-2 t c = search needs
+form-halves-same-length-2 t c = c .before .before .before .before .before .before .before .form-cell .kept .1 .1 .1 .1 .1 .1 .1 .1 .0
 
 form-halves-same-length-3 : (t : ℕ) → form-halves-lts.Need-same-length-3 (halves-calls t) (form-halves-at t) form-halves.Post
 form-halves-same-length-3 t c = search needs

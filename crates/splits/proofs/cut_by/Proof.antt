@@ -7,6 +7,7 @@ use native.Mathlib.Omega.{arith}
 use denote.Enum.Declared.{tagOf}
 use types.Run.{OneOf}
 use Rattle.whole.specs.Tests.{differ}
+use Rattle.planes.specs.declared.Meeting.{Meeting}
 use Rattle.cells.specs.declared.Classified.{Classified}
 use Rattle.cells.specs.declared.Classified.the-variants.{Cut}
 use Rattle.cells.proofs.Classified.{the-type}
@@ -33,23 +34,23 @@ enum-known-x : tie.Need-enum-known-x
 enum-known-x c = search needs
 
 same-length : tie.Need-same-length
-same-length c = search needs
+same-length c = c .before .before .before .classify .kept .1 .1 .1 .0
 
 same-length-2 : tie.Need-same-length-2
-same-length-2 c = search needs
+same-length-2 c = c .before .before .before .classify .kept .1 .1 .1 .1 .0
 
 -- another class
-not-cut : (r k : Classified) → OneOf (1 ∷ 2 ∷ []) (tagOf the-type r) → r ≡ k → OneOf (1 ∷ 2 ∷ []) (tagOf the-type k)
-not-cut r k h e = subst (λ q. OneOf (1 ∷ 2 ∷ []) (tagOf the-type q)) e h
+not-cut : (r : Classified) (x : Meeting) → OneOf (1 ∷ 2 ∷ []) (tagOf the-type r) → r ≡ Cut x → ⊥
+not-cut r x h e = ⊎-elim (λ z. differ (cc)) (λ z. differ (cc)) (subst (λ q. OneOf (1 ∷ 2 ∷ []) (tagOf the-type q)) e h)
 
 returns : tie.Need-returns
-returns c = cut-missed (c .before .before .before .before .before .before .before .before .before .pre .0) (c .before .before .before .before .before .before .before .before .before .pre .1) (c .before .before .before .before .before .before .row .ensures) (c .before .before .before .classify .ensures) (λ x e. ⊎-elim (λ z. differ (cc)) (λ z. differ (cc)) (not-cut (c .before .before .before .classify .result) (Cut x) (c .match .keys2) e))
+returns c = cut-missed (c .before .before .before .before .before .before .before .before .before .pre .0) (c .before .before .before .before .before .before .before .before .before .pre .1) (c .before .before .before .before .before .before .row .ensures) (c .before .before .before .classify .ensures) (λ x e. not-cut (c .before .before .before .classify .result) x (c .match .keys2) e)
 
 same-length-3 : tie.Need-same-length-3
-same-length-3 c = search needs
+same-length-3 c = c .before .before .before .before .before .classify .kept .1 .1 .1 .0
 
 same-length-4 : tie.Need-same-length-4
-same-length-4 c = search needs
+same-length-4 c = c .before .before .before .before .before .classify .kept .1 .1 .1 .1 .0
 
 returns-2 : tie.Need-returns-2
 returns-2 c = cut-found (c .before .before .before .before .before .before .before .before .before .before .before .pre .0) (c .before .before .before .before .before .before .before .before .before .before .before .pre .1) (c .before .before .before .before .before .before .before .before .row .ensures) (c .before .before .before .before .before .classify .ensures) (c .before .x .given .1)

@@ -11,6 +11,7 @@ use Rattle.whole.specs.Tests.{differ}
 use Rattle.scope.specs.Planes.{Point}
 use Rattle.planes.specs.Values.{quad}
 use Rattle.planes.specs.Promises.{PointMade}
+use Rattle.planes.specs.declared.Point as struct
 use Rattle.planes.specs.declared.MadePoint.{MadePoint}
 use Rattle.planes.specs.declared.MadePoint.the-variants.{Made}
 use Rattle.planes.proofs.MadePoint.{the-type}
@@ -57,16 +58,16 @@ same-length-2 c = search needs
 made : (c : tie.After-new) → let s = c .before .before .before .before .before .before .before in PointMade (s .args .x) (s .args .y) (s .args .z) (s .args .w) (c .new .result)
 made c = let s = c .before .before .before .before .before .before .before in rw (toZ-ofZ (s .fits .x), toZ-ofZ (s .fits .y), toZ-ofZ (s .fits .z), toZ-ofZ (s .fits .w)) at (c .new .ensures)
 
--- another variant
-not-made : (r p : MadePoint) → OneOf (1 ∷ 2 ∷ []) (tagOf the-type r) → r ≡ p → OneOf (1 ∷ 2 ∷ []) (tagOf the-type p)
-not-made r p h e = subst (λ q. OneOf (1 ∷ 2 ∷ []) (tagOf the-type q)) e h
+-- another variant is none that is made
+not-made : (r : MadePoint) (p : struct.Point) → OneOf (1 ∷ 2 ∷ []) (tagOf the-type r) → r ≡ Made p → ⊥
+not-made r p h e = ⊎-elim (λ z. differ (cc)) (λ z. differ (cc)) (subst (λ q. OneOf (1 ∷ 2 ∷ []) (tagOf the-type q)) e h)
 
 returns-2 : tie.Need-returns-2
 returns-2 c =
     let s = c .before .before .before .before .before .before .before .before in
     let j = c .before .before .before .before .before .judge .ensures in
     tell-bad j (c .before .before .enum-told .given .1) (X s)
-    (made-bad (made (c .before)) (λ p e. ⊎-elim (λ z. differ (cc)) (λ z. differ (cc)) (not-made (c .before .new .result) (Made p) (c .match2 .keys2) e)))
+    (made-bad (made (c .before)) (λ p e. not-made (c .before .new .result) p (c .match2 .keys2) e))
 
 walk-requires : tie.Need-walk-requires
 walk-requires c κs =

@@ -95,10 +95,10 @@ node-walk-same-length : (t : ℕ) → node-walk-lts.Need-same-length (node-calls
 node-walk-same-length t c = search needs
 
 node-walk-same-length-2 : (t : ℕ) → node-walk-lts.Need-same-length-2 (node-calls t) (node-walk-at t) node-walk.Post
-node-walk-same-length-2 t c = search needs
+node-walk-same-length-2 t c = c .before .before .before .before .before .before .before .side-walk .kept .1 .1 .1 .1 .1 .1 .1 .0
 
 node-walk-same-length-3 : (t : ℕ) → node-walk-lts.Need-same-length-3 (node-calls t) (node-walk-at t) node-walk.Post
-node-walk-same-length-3 t c = search needs
+node-walk-same-length-3 t c = c .before .before .before .before .before .before .before .side-walk .kept .1 .1 .1 .1 .1 .1 .1 .1 .0
 
 node-walk-same-length-4 : (t : ℕ) → node-walk-lts.Need-same-length-4 (node-calls t) (node-walk-at t) node-walk.Post
 node-walk-same-length-4 t c = search needs
@@ -189,7 +189,7 @@ side-walk-side-walk-requires t c κs = (
 )
 
 side-walk-same-length : (t : ℕ) → side-walk-lts.Need-same-length (side-calls t) (side-walk-at t) side-walk.Post
-side-walk-same-length t c = search needs
+side-walk-same-length t c = c .before .before .before .before .before .node-walk .kept .1 .1 .1 .1 .1 .0
 
 side-walk-same-length-2 : (t : ℕ) → side-walk-lts.Need-same-length-2 (side-calls t) (side-walk-at t) side-walk.Post
 side-walk-same-length-2 t c = search needs
@@ -204,7 +204,7 @@ side-walk-returns : (t : ℕ) → side-walk-lts.Need-returns (side-calls t) (sid
 side-walk-returns t c = c .before .before .before .before .before .node-walk .ensures
 
 side-walk-same-length-5 : (t : ℕ) → side-walk-lts.Need-same-length-5 (side-calls t) (side-walk-at t) side-walk.Post
-side-walk-same-length-5 t c = search needs
+side-walk-same-length-5 t c = c .before .before .before .before .before .side-walk .kept .1 .1 .1 .1 .1 .0
 
 side-walk-same-length-6 : (t : ℕ) → side-walk-lts.Need-same-length-6 (side-calls t) (side-walk-at t) side-walk.Post
 side-walk-same-length-6 t c = search needs
@@ -237,13 +237,13 @@ side-walk-returns-3 : (t : ℕ) → side-walk-lts.Need-returns-3 (side-calls t) 
 side-walk-returns-3 t c = side-mark (c .before .before .before .before .before .before .before .before .before .pre .1) (c .before .before .before .before .if1 .left) (c .before .e .given .1) (c .before .before .before .ended .ensures)
 
 side-walk-same-length-9 : (t : ℕ) → side-walk-lts.Need-same-length-9 (side-calls t) (side-walk-at t) side-walk.Post
-side-walk-same-length-9 t c = search needs
+side-walk-same-length-9 t c = c .before .before .before .before .before .side-walk2 .kept .1 .1 .1 .1 .1 .0
 
 side-walk-same-length-10 : (t : ℕ) → side-walk-lts.Need-same-length-10 (side-calls t) (side-walk-at t) side-walk.Post
-side-walk-same-length-10 t c = search needs
+side-walk-same-length-10 t c = c .before .before .before .before .before .side-walk2 .kept .1 .1 .1 .1 .1 .1 .1 .0
 
 side-walk-same-length-11 : (t : ℕ) → side-walk-lts.Need-same-length-11 (side-calls t) (side-walk-at t) side-walk.Post
-side-walk-same-length-11 t c = search needs
+side-walk-same-length-11 t c = c .before .before .before .before .before .side-walk2 .kept .1 .1 .1 .1 .1 .1 .1 .1 .0
 
 side-walk-same-length-12 : (t : ℕ) → side-walk-lts.Need-same-length-12 (side-calls t) (side-walk-at t) side-walk.Post
 side-walk-same-length-12 t c = search needs

@@ -27,28 +27,28 @@ field-requires-2 : tie.Need-field-requires-2
 field-requires-2 c κs = field-in (here-row (c .before .before .before .before .before .before .before .before .before .before .before .pre) .row) 2 (lit< tt)
 
 same-length : tie.Need-same-length
-same-length c = search needs
+same-length c = c .before .before .before .before .before .classify .kept .1 .1 .1 .0
 
 same-length-2 : tie.Need-same-length-2
-same-length-2 c = search needs
+same-length-2 c = c .before .before .before .before .before .classify .kept .1 .1 .1 .1 .0
 
 returns : tie.Need-returns
 returns c = step-cut (c .before .before .before .before .before .before .before .before .before .before .before .before .pre) (c .before .before .before .before .before .before .before .before .plane-of .ensures) (c .before .x .given .0 .0) (c .before .x .given .1) (c .before .before .before .before .before .classify .ensures)
 
 same-length-3 : tie.Need-same-length-3
-same-length-3 c = search needs
+same-length-3 c = c .before .before .before .before .before .classify .kept .1 .1 .1 .0
 
 same-length-4 : tie.Need-same-length-4
-same-length-4 c = search needs
+same-length-4 c = c .before .before .before .before .before .classify .kept .1 .1 .1 .1 .0
 
 returns-2 : tie.Need-returns-2
 returns-2 c = step-fore (c .before .before .before .before .before .before .before .before .before .before .before .before .pre) (c .before .before .before .before .before .before .before .before .plane-of .ensures) (c .before .enum-told .given .1) (c .before .before .before .before .before .classify .ensures) (c .field .ensures)
 
 same-length-5 : tie.Need-same-length-5
-same-length-5 c = search needs
+same-length-5 c = c .before .before .before .before .before .classify .kept .1 .1 .1 .0
 
 same-length-6 : tie.Need-same-length-6
-same-length-6 c = search needs
+same-length-6 c = c .before .before .before .before .before .classify .kept .1 .1 .1 .1 .0
 
 returns-3 : tie.Need-returns-3
 returns-3 c = step-aft (c .before .before .before .before .before .before .before .before .before .before .before .before .pre) (c .before .before .before .before .before .before .before .before .plane-of .ensures) (c .before .enum-told2 .given .1) (c .before .before .before .before .before .classify .ensures) (c .field2 .ensures)

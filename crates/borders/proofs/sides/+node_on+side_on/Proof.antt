@@ -95,10 +95,10 @@ node-on-same-length : (t : ℕ) → node-on-lts.Need-same-length (node-calls t) 
 node-on-same-length t c = search needs
 
 node-on-same-length-2 : (t : ℕ) → node-on-lts.Need-same-length-2 (node-calls t) (node-on-at t) node-on.Post
-node-on-same-length-2 t c = search needs
+node-on-same-length-2 t c = c .before .before .before .before .before .side-on .kept .1 .1 .1 .1 .1 .1 .1 .0
 
 node-on-same-length-3 : (t : ℕ) → node-on-lts.Need-same-length-3 (node-calls t) (node-on-at t) node-on.Post
-node-on-same-length-3 t c = search needs
+node-on-same-length-3 t c = c .before .before .before .before .before .side-on .kept .1 .1 .1 .1 .1 .1 .1 .1 .0
 
 node-on-returns : (t : ℕ) → node-on-lts.Need-returns (node-calls t) (node-on-at t) node-on.Post
 node-on-returns t c = node-front (c .before .before .before .before .before .before .before .before .before .before .before .before .before .before .before .before .before .before .pre .1) (pushed-front t ((c .before .before .before .before .before .before .before .before .before .before))) (c .before .before .before .before .before .before .before .before .before .before .before .before .field .ensures) (c .before .before .before .before .before .side-on .ensures) (c .enum-told2 .given .1)
@@ -201,13 +201,13 @@ side-on-returns-3 : (t : ℕ) → side-on-lts.Need-returns-3 (side-calls t) (sid
 side-on-returns-3 t c = side-end (c .before .before .before .before .before .before .before .before .pre .1) (c .before .before .before .before .if1 .left) (c .before .before .before .followed .ensures) (c .before .f .given .1)
 
 side-on-same-length-7 : (t : ℕ) → side-on-lts.Need-same-length-7 (side-calls t) (side-on-at t) side-on.Post
-side-on-same-length-7 t c = search needs
+side-on-same-length-7 t c = c .before .before .before .side-on2 .kept .1 .1 .1 .1 .1 .0
 
 side-on-same-length-8 : (t : ℕ) → side-on-lts.Need-same-length-8 (side-calls t) (side-on-at t) side-on.Post
-side-on-same-length-8 t c = search needs
+side-on-same-length-8 t c = c .before .before .before .side-on2 .kept .1 .1 .1 .1 .1 .1 .1 .0
 
 side-on-same-length-9 : (t : ℕ) → side-on-lts.Need-same-length-9 (side-calls t) (side-on-at t) side-on.Post
-side-on-same-length-9 t c = search needs
+side-on-same-length-9 t c = c .before .before .before .side-on2 .kept .1 .1 .1 .1 .1 .1 .1 .1 .0
 
 side-on-returns-4 : (t : ℕ) → side-on-lts.Need-returns-4 (side-calls t) (side-on-at t) side-on.Post
 side-on-returns-4 t c = side-walk (c .before .before .before .before .before .before .before .before .before .before .before .before .before .before .before .pre .1) (c .before .before .before .before .before .before .before .before .before .before .before .if1 .left) (c .before .before .before .before .before .before .before .before .before .before .followed .ensures) (c .before .before .before .before .before .before .before .before .u .given .1) (c .before .before .before .side-on2 .ensures)

@@ -1,4 +1,4 @@
--- `borders::sides::parted` meets its contract: two sections, one with q on the path and one with its back (proofs/Parts). Assumes nothing.
+-- `borders::sides::parted` meets its contract: two cuts, one with q on the path and one with its back (proofs/Parts). Assumes nothing.
 use borrow.Author.Needs.{needs}
 use mathlib.Core.Path.{refl}
 use mathlib.Core.Bool.{false}
@@ -29,13 +29,13 @@ enum-told-2 : tie.Need-enum-told-2
 enum-told-2 c = search needs
 
 same-length : tie.Need-same-length
-same-length c = search needs
+same-length c = c .before .before .before .before .before .before .before .before .before .keep .kept .0
 
 same-length-2 : tie.Need-same-length-2
-same-length-2 c = search needs
+same-length-2 c = c .before .before .before .before .cut .kept .1 .1 .1 .0
 
 same-length-3 : tie.Need-same-length-3
-same-length-3 c = search needs
+same-length-3 c = c .before .before .before .before .cut .kept .1 .1 .1 .1 .0
 
 returns : tie.Need-returns
 returns c = told-behind (c .before .before .before .before .before .before .before .before .before .before .before .pre) ((laid-first {h = c .before .before .before .before .before .before .before .before .before .before .before .args .q} (c .before .before .before .before .before .before .before .before .before .keep .ensures) (c .before .before .before .before .before .before .before .before .before .keep .kept .0) refl (c .before .before .before .before .before .before .before .before .before .before .before .pre .room)) .before) (half-said (c .before .before .before .before .before .before .before .before .before .before .before .pre) (laid-first {h = c .before .before .before .before .before .before .before .before .before .before .before .args .q} (c .before .before .before .before .before .before .before .before .before .keep .ensures) (c .before .before .before .before .before .before .before .before .before .keep .kept .0) refl (c .before .before .before .before .before .before .before .before .before .before .before .pre .room)) (c .before .before .before .before .cut .ensures) .missed (c .enum-told2 .given .1))

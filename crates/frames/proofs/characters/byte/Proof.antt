@@ -48,7 +48,7 @@ add-result c =
 
 returns : tie.Need-returns
 unfolding byte-of
-returns c = cc (c .before .before .nibble .ensures, c .nibble2 .ensures)
+returns c = λ i. c .before .before .nibble .ensures i * 16 + c .nibble2 .ensures i
 
 pub byte-spec : {M : Type 1} → statement M
 byte-spec =

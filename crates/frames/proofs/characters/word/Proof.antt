@@ -1,5 +1,6 @@
 -- `frames::characters::word` meets its contract. Assumes nothing.
 use borrow.Author.Needs.{needs}
+use Prim.Native.Nat.{_+_, _*_}
 use Rattle.scope.specs.Text.{word}
 use Rattle.frames.proofs.characters.word.Statement.{statement}
 use Rattle.frames.proofs.characters.word.Tie as tie
@@ -27,7 +28,7 @@ add-result c = search needs
 
 returns : tie.Need-returns
 unfolding word
-returns c = cc (c .before .byte .ensures, c .byte2 .ensures)
+returns c = λ i. c .before .byte .ensures i * 256 + c .byte2 .ensures i
 
 pub word-spec : {M : Type 1} → statement M
 word-spec =

@@ -1,6 +1,6 @@
 -- `planes::Point::ranged` meets its contract. Assumes nothing.
 use borrow.Author.Needs.{needs}
-use Rattle.whole.specs.Code.{back64}
+use Rattle.planes.proofs.Laws.{point-kept}
 use Rattle.planes.proofs.Point.ranged.Statement.{statement}
 use Rattle.planes.proofs.Point.ranged.Tie as tie
 
@@ -11,8 +11,7 @@ point-in-range-requires c κs = search needs
 returns : tie.Need-returns
 returns c =
     let g = c .before .struct-told4 .given in
-    let p = c .before .before .before .before .before .args .self in
-    cc (back64 (p .x) (g .0 .1), back64 (p .y) (g .1 .0 .1), back64 (p .z) (g .1 .1 .0 .1), back64 (p .w) (g .1 .1 .1 .0 .1))
+    point-kept (record { sfits = g .0 .1 }) (record { sfits = g .1 .0 .1 }) (record { sfits = g .1 .1 .0 .1 }) (record { sfits = g .1 .1 .1 .0 .1 }) (c .point-in-range .ensures)
 
 pub ranged-spec : {M : Type 1} → statement M
 ranged-spec = tie.close (tie.spec point-in-range-requires returns)

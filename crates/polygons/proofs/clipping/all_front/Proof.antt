@@ -1,10 +1,10 @@
 -- `polygons::clipping::all_front` meets its contract. The loop has the first i corners in front. Assumes nothing.
 use borrow.Author.Count.{below-more}
 use mathlib.Core.Path.{_≡_, sym, ap, _∙_}
+use mathlib.Core.Bool.{true≢false, false≢true}
 use Prim.Native.Nat.{ℕ, _-_, _≤_, _<_}
 use native.Mathlib.Omega.{arith}
 use denote.Ref.{now}
-use Rattle.whole.specs.Tests.{differ}
 use Rattle.whole.specs.Sign.{plus}
 use Rattle.polygons.specs.Values.{code}
 use Rattle.polygons.specs.Asked.{side-of}
@@ -25,7 +25,7 @@ side-at-requires : tie.Need-side-at-requires Inv-loop μ-loop
 side-at-requires c κs = c .before .before .pre (c .before .loop .i) (omega arith)
 
 returns : tie.Need-returns Inv-loop μ-loop
-returns c = ((λ e. differ (cc)), λ e f. c .if1 .taken (c .before .side-at .ensures ∙ ap code (f (c .before .before .before .loop .i) (omega arith))))
+returns c = ((λ e. absurd (false≢true e)), λ e f. c .if1 .taken (c .before .side-at .ensures ∙ ap code (f (c .before .before .before .loop .i) (omega arith))))
 
 add-i : tie.Need-add-i Inv-loop μ-loop
 add-i c = omega arith
@@ -40,7 +40,7 @@ loop-again c =
     (omega arith, below-more _ _ (c .before .before .before .loop .inv .1) (code-plus (side-of (s .h) (now (s .t)) i) (sym (c .before .side-at .ensures) ∙ c .if1 .left)))
 
 returns-2 : tie.Need-returns-2 Inv-loop μ-loop
-returns-2 c = ((λ e i l. c .before .loop .inv .1 i (omega arith)), λ e. differ (cc))
+returns-2 c = ((λ e i l. c .before .loop .inv .1 i (omega arith)), λ e. absurd (true≢false e))
 
 pub all-front-spec : {M : Type 1} → statement M
 all-front-spec =

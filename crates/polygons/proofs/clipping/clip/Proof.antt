@@ -1,11 +1,9 @@
 -- `polygons::clipping::clip` meets its contract. The mathematics is in proofs/Clips. Assumes nothing.
 use borrow.Author.Needs.{needs}
-use mathlib.Core.Path.{_≡_}
 use native.Mathlib.Omega.{arith}
 use denote.Ref.{now}
-use Rattle.whole.specs.Tests.{differ}
 use Rattle.planes.specs.Values.{plane}
-use Rattle.polygons.proofs.Clips.{clip-n, clip-found, clip-side, clip-sides, clip-same, clip-gone, clip-emit, clip-cut}
+use Rattle.polygons.proofs.Clips.{clip-n, clip-found, clip-side, clip-sides, clip-same, clip-gone, clip-emit, clip-cut-at, same-not-gone, same-not-cut, gone-not-same, gone-not-cut, cut-not-same, cut-not-gone, cut-count}
 use Rattle.polygons.proofs.clipping.clip.Statement.{statement}
 use Rattle.polygons.proofs.clipping.clip.Tie as tie
 
@@ -21,8 +19,8 @@ returns c =
     let b = c .before .before .bound in
     record {
       same = λ e. clip-same (plane (s .s)) (now (s .hs)) (s .width) (s .k) (now (s .t)) (s .n) (now (s .out)) (c .before .before .before .pre) (b .result) (b .ensures) (c .before .all-front .ensures .0 (c .if1 .taken));
-      gone = λ e. differ (cc);
-      cut = λ m e. differ (cc);
+      gone = λ e. same-not-gone e;
+      cut = λ m e. same-not-cut e;
     }
 
 slice-aggregate-sides-of : tie.Need-slice-aggregate-sides-of
@@ -39,9 +37,9 @@ returns-2 c =
     let b = c .before .before .before .before .before .before .bound in
     let o = c .before .before .sides-of in
     record {
-      same = λ e. differ (cc);
+      same = λ e. gone-not-same e;
       gone = λ e. clip-gone (plane (s .s)) (now (s .hs)) (s .width) (s .k) (now (s .t)) (s .n) (now (s .out)) (c .before .before .before .before .before .before .before .pre) (b .result) (b .ensures) _ (o .result) (o .ensures) (c .if2 .taken);
-      cut = λ m e. differ (cc);
+      cut = λ m e. gone-not-cut e;
     }
 
 slice-aggregate-emit : tie.Need-slice-aggregate-emit
@@ -64,9 +62,9 @@ returns-3 c =
     let o = c .before .before .before .before .before .before .sides-of in
     let u = c .before .emit in
     record {
-      same = λ e. differ (cc);
-      gone = λ e. differ (cc);
-      cut = λ m e. let f : u .result ≡ m = cc in rw f at (clip-cut (plane (s .s)) (now (s .hs)) (s .width) (s .k) (now (s .t)) (s .n) (now (s .out)) (c .before .before .before .before .before .before .before .before .before .before .before .pre) (b .result) (b .ensures) _ (o .result) (o .ensures) _ (u .result) (u .ensures));
+      same = λ e. cut-not-same e;
+      gone = λ e. cut-not-gone e;
+      cut = λ m e. clip-cut-at (plane (s .s)) (now (s .hs)) (s .width) (s .k) (now (s .t)) (s .n) (now (s .out)) (c .before .before .before .before .before .before .before .before .before .before .before .pre) (b .result) (b .ensures) _ (o .result) (o .ensures) _ (u .result) (u .ensures) m (cut-count e);
     }
 
 pub clip-spec : {M : Type 1} → statement M

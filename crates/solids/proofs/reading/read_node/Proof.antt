@@ -20,16 +20,16 @@ pushed-requires : tie.Need-pushed-requires
 pushed-requires c κs = search needs
 
 same-length : tie.Need-same-length
-same-length c = search needs
+same-length c = c .before .before .before .before .before .node-at .kept .1 .1 .0
 
 returns : tie.Need-returns
 returns c = let s = c .before .before .before .before .before .before .before .before .before in node-refused (s .args .n) (s .args .depth) (s .args .l) _ _ (c .before .before .before .before .before .node-at .ensures) (c .before .k .given .1)
 
 same-length-2 : tie.Need-same-length-2
-same-length-2 c = search needs
+same-length-2 c = c .before .before .before .before .before .before .before .before .before .before .node-at .kept .1 .1 .0
 
 same-length-3 : tie.Need-same-length-3
-same-length-3 c = search needs
+same-length-3 c = c .before .before .judge-node .kept .1 .1 .1 .0
 
 returns-2 : tie.Need-returns-2
 returns-2 c = let s = c .before .before .before .before .before .before .before .before .before .before .before .before .before .before in node-pushed-line (s .args .n) (s .args .depth) (s .args .l) _ _ (c .before .before .before .before .before .before .before .before .before .before .node-at .ensures) (c .before .before .judge-node .result) (c .before .before .before .before .before .before .next .given .1) (c .before .before .judge-node .ensures) (c .pushed .ensures)

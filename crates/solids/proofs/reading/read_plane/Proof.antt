@@ -20,13 +20,13 @@ on-line-requires : tie.Need-on-line-requires
 on-line-requires c κs = search needs
 
 same-length : tie.Need-same-length
-same-length c = search needs
+same-length c = c .before .before .before .before .plane-at .kept .1 .1 .0
 
 returns : tie.Need-returns
 returns c = plane-refused (c .before .before .before .before .before .before .before .args .l) (c .before .before .before .before .plane-at .ensures) (c .before .k .given .1)
 
 same-length-2 : tie.Need-same-length-2
-same-length-2 c = search needs
+same-length-2 c = c .before .before .before .before .before .before .before .plane-at .kept .1 .1 .0
 
 returns-2 : tie.Need-returns-2
 returns-2 c = plane-judged-line (c .before .before .before .before .before .before .before .before .before .before .args .l) (c .before .before .before .before .before .before .before .plane-at .ensures) (c .before .before .before .before .next .given .1) (c .before .judge-plane .ensures) (c .on-line .ensures)

@@ -74,13 +74,13 @@ returns-2 : tie.Need-returns-2
 returns-2 c = let a = c .before .before .before .before .before .before .before .before .before .before .args in head-refused (rooms (now (a .planes)) (now (a .nodes))) (a .l) (c .before .before .before .before .before .n .given .0 .0) (c .before .before .before .before .before .n .given .0 .1 .0) (c .before .before .before .before .before .n .given .0 .1 .1 .0) (headed (c .before .before .before .before .before) .first) (sym (c .before .before .before .judge-head .ensures) ∙ c .before .k2 .given .1)
 
 same-length : tie.Need-same-length
-same-length c = search needs
+same-length c = c .before .before .before .before .before .read-rows .kept .1 .1 .1 .1 .0
 
 same-length-2 : tie.Need-same-length-2
-same-length-2 c = search needs
+same-length-2 c = c .before .before .before .before .before .read-rows .kept .1 .1 .1 .1 .1 .0
 
 same-length-3 : tie.Need-same-length-3
-same-length-3 c = search needs
+same-length-3 c = c .before .before .before .before .before .read-rows .kept .1 .1 .1 .1 .1 .1 .0
 
 returns-3 : tie.Need-returns-3
 returns-3 c = let a = c .before .before .before .before .before .before .before .before .before .before .before .before .before .before .before .before .before .before .args in solid-told (rooms (now (a .planes)) (now (a .nodes))) (a .l) (c .before .before .before .before .before .before .before .before .before .before .before .before .before .n .given .0 .0) (c .before .before .before .before .before .before .before .before .before .before .before .before .before .n .given .0 .1 .0) (c .before .before .before .before .before .before .before .before .before .before .before .before .before .n .given .0 .1 .1 .0) (headed (c .before .before .before .before .before .before .before .before .before .before .before .before .before)) (sym (c .before .before .before .before .before .before .before .before .before .before .before .judge-head .ensures) ∙ c .before .before .before .before .before .before .before .before .before .enum-told .given .1) (c .before .before .before .before .before .read-rows .last .1 .1 .1 .1 .0) (c .before .before .before .before .before .read-rows .last .1 .1 .1 .1 .1 .0) (c .before .before .before .before .before .read-rows .result) (c .before .before .before .before .before .read-rows .ensures) (c .whole .ensures)

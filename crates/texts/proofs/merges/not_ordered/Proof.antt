@@ -20,13 +20,13 @@ refuse-requires-2 : tie.Need-refuse-requires-2
 refuse-requires-2 c κs = search needs
 
 same-length : tie.Need-same-length
-same-length c = search needs
+same-length c = c .before .before .refuse .kept .1 .0
 
 returns : tie.Need-returns
 returns c = subst (λ x. Refuses (not-ordered x) (now (c .before .before .before .before .before .before .before .before .args .out)) (c .before .before .refuse .last .1 .0) (c .before .before .refuse .result)) (sym (c .before .before .before .before .before .o .given .1)) (c .before .before .refuse .ensures)
 
 same-length-2 : tie.Need-same-length-2
-same-length-2 c = search needs
+same-length-2 c = c .before .before .refuse2 .kept .1 .0
 
 returns-2 : tie.Need-returns-2
 returns-2 c = subst (λ x. Refuses (not-ordered x) (now (c .before .before .before .before .before .before .before .args .out)) (c .before .before .refuse2 .last .1 .0) (c .before .before .refuse2 .result)) (sym (c .before .before .before .before .enum-told .given .1)) (c .before .before .refuse2 .ensures)

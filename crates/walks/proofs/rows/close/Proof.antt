@@ -14,7 +14,7 @@ emit-requires : tie.Need-emit-requires
 emit-requires c κs = search needs
 
 same-length : tie.Need-same-length
-same-length c = search needs
+same-length c = c .before .before .emit .kept .0
 
 returns-2 : tie.Need-returns-2
 returns-2 c = closed-row (c .before .before .before .before .before .same-mark .ensures) (c .before .before .before .before .if1 .left) (c .before .before .emit .ensures)
