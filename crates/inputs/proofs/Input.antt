@@ -24,10 +24,10 @@ use Rattle.frames.specs.declared.OperationRead as OperationRead
 use Rattle.frames.specs.Follows.{operation-refuses}
 use Rattle.tables.specs.declared.Judgement as Judgement
 use Rattle.tables.specs.declared.Solid.{Solid}
-use Rattle.solids.specs.declared.SolidRead as SolidRead
-use Rattle.solids.specs.Lines.{Finished, not-read as was-not-read, at-end, more}
-use Rattle.solids.specs.Reading.{rooms, WholeSolid, SolidTold}
-use Rattle.solids.proofs.Whole.{finish-read, finish-more, finish-refused}
+use Rattle.lines.specs.declared.SolidRead as SolidRead
+use Rattle.solids.specs.Finish.{Finished, not-read as was-not-read, at-end, more}
+use Rattle.lines.specs.Reading.{rooms, WholeSolid, SolidTold}
+use Rattle.lines.proofs.Whole.{finish-read, finish-more, finish-refused}
 use Rattle.inputs.specs.declared.OrderRead as OrderRead
 use Rattle.inputs.specs.Orders.{HoldsSolid, OrderTold}
 use Rattle.inputs.specs.Steps.{LastTold, not-read, not-operation, order-of, after-operation, KnownTold}

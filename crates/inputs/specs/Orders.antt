@@ -11,7 +11,7 @@ use Rattle.scope.specs.Solids.{Tables}
 use Rattle.scope.specs.Judging.{order, order-refused, judge-merge}
 use Rattle.scope.specs.Answers.{plane-numbers, node-numbers, filled, operand-rooms}
 use Rattle.tables.specs.declared.Solid.{Solid}
-use Rattle.solids.specs.Reading.{Blank, solid-of}
+use Rattle.lines.specs.Reading.{Blank, solid-of}
 use Rattle.inputs.specs.declared.OrderRead as OrderRead
 
 -- tables of 64 plane rows and 1,000 node rows, all zeros, and a work table of zeros

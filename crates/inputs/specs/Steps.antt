@@ -16,7 +16,7 @@ use Rattle.scope.specs.Answers.{operand-rooms}
 use Rattle.tables.specs.declared.Judgement as Judgement
 use Rattle.tables.specs.declared.Solid.{Solid}
 use Rattle.frames.specs.declared.OperationRead as OperationRead
-use Rattle.solids.specs.declared.SolidRead as SolidRead
+use Rattle.lines.specs.declared.SolidRead as SolidRead
 use Rattle.inputs.specs.declared.OrderRead as OrderRead
 use Rattle.inputs.specs.Orders.{OrderIn, HoldsSolid}
 

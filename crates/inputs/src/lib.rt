@@ -1,7 +1,7 @@
 // The input of a merge, as document 01 has it: a line with the operation, then the solids A and B, in one text.
 use frames::Cursor;
 use frames::OperationRead;
-use solids::SolidRead;
+use lines::SolidRead;
 use tables::Judgement;
 use tables::Solid;
 ghost use mathlib.Core.Path.{_≡_};
@@ -27,7 +27,7 @@ fn read_last(
     ensures { λ r. ⌜ LastTold (now (text .entry)) (c .at) l (now (planes .exit)) (now (nodes .exit)) r ⌝ }
 {
     zeros::clear(work);
-    let r = solids::read_solid(text, c, l, planes, nodes, work);
+    let r = lines::read_solid(text, c, l, planes, nodes, work);
     solids::finished(text, r)
 }
 
@@ -78,7 +78,7 @@ fn read_known(
     if op == 0 || 3 < op {
         return OrderRead::Refused(7, 1);
     }
-    let r = solids::read_solid(text, c, 2, a_planes, a_nodes, work);
+    let r = lines::read_solid(text, c, 2, a_planes, a_nodes, work);
     let SolidRead::Read(a, next, l) = r else {
         return not_read(r);
     };

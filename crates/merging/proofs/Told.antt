@@ -19,7 +19,7 @@ use Rattle.theory.specs.Text.MergeInput.{operation-of}
 use Rattle.tables.specs.declared.Judgement as Judgement
 use Rattle.tables.specs.declared.Solid.{Solid}
 use Rattle.tables.specs.Promises.{judgement}
-use Rattle.tables.proofs.Points.{rows-refused, rows-sound}
+use Rattle.tables.proofs.Soundness.{rows-refused, rows-sound}
 use Rattle.results.specs.declared.Given as Given
 use Rattle.results.specs.Results.{rooms, not-sound, ZerosIn}
 use Rattle.results.specs.Operands.{SoundIn}

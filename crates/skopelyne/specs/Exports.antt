@@ -10,8 +10,8 @@ use lib.IntN.{ℤ}
 use Rattle.scope.specs.Planes.{Point}
 use Rattle.planes.specs.declared.Plane.{Plane}
 use Rattle.tables.specs.declared.Judgement.{Judgement}
-use Rattle.tables.specs.declared.Told as told
-use Rattle.tables.specs.Promises.{Tells}
+use Rattle.points.specs.declared.Told as told
+use Rattle.points.specs.Promises.{Tells}
 use Rattle.solids.specs.declared.Written.{Written}
 use Rattle.solids.specs.Reading.{ReadTold}
 use Rattle.solids.specs.Writing.{WriteTold}

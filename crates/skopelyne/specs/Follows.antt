@@ -11,7 +11,7 @@ use Rattle.results.specs.Results.{Asked}
 use Rattle.results.specs.Follows.{told-unique}
 use Rattle.solids.specs.Follows.{read-unique, write-unique}
 use Rattle.sections.specs.Follows.{section-unique}
-use Rattle.tables.specs.Only.{tells-unique}
+use Rattle.points.specs.Only.{tells-unique}
 use Rattle.texts.specs.Answers.{Job}
 use Rattle.zones.specs.Follows.{text-told-unique}
 use Rattle.skopelyne.specs.Numbers.{Counts, given-as, read-as, written-as, section-as, point-as, Counted}

@@ -5,7 +5,7 @@
 use mathlib.Core.Path.{_≡_}
 use Prim.Native.Nat.{ℕ}
 use Rattle.tables.specs.declared.Judgement as Judgement
-use Rattle.tables.specs.declared.Told as Told
+use Rattle.points.specs.declared.Told as Told
 use Rattle.solids.specs.declared.Written as Written
 use Rattle.sections.specs.declared.Sectioned as Sectioned
 use Rattle.results.specs.declared.Given as Given

@@ -30,12 +30,13 @@ use Rattle.theory.specs.Numbers.{judge-number, lent-number, order-number, merge
 use Rattle.tables.specs.declared.Solid.{Solid}
 use Rattle.theory.specs.Text.Lent.{lent}
 use Rattle.tables.specs.declared.Judgement as Judgement
-use Rattle.tables.specs.declared.Told as told
-use Rattle.tables.specs.Promises.{Tells}
+use Rattle.points.specs.declared.Told as told
+use Rattle.points.specs.Promises.{Tells}
 use Rattle.sections.specs.declared.Sectioned as Sectioned
 use Rattle.sections.specs.Values.{section-of}
 use Rattle.sections.specs.Promises.{answer-to, SectionTold}
-use Rattle.solids.specs.Reading.{rooms, judgement, ReadTold}
+use Rattle.lines.specs.Reading.{rooms}
+use Rattle.solids.specs.Reading.{judgement, ReadTold}
 use Rattle.solids.specs.declared.Written as Written
 use Rattle.solids.specs.Writing.{wrote, itself, WriteTold}
 use Rattle.solids.specs.Follows.{read-refusal, write-refusal}

@@ -2,11 +2,11 @@
 // number of the refusal, or 0. What an answer counts stands in places lent for it, zeros after a refusal. A table crosses as a pointer and
 // a length; that the two are true, and that nothing lent to be written overlaps anything else, is all that is asked of a caller.
 use planes::Plane;
+use points::Told;
 use results::Given;
 use sections::Sectioned;
 use solids::Written;
 use tables::Judgement;
-use tables::Told;
 ghost use mathlib.Core.Path.{_≡_};
 ghost use Rattle.planes.specs.Values.{quad};
 ghost use Rattle.theory.specs.Text.Lent.{lent};

@@ -28,10 +28,11 @@ use Rattle.tables.specs.Promises.{judgement, judge-answer, counts}
 use Rattle.tables.specs.declared.Solid.{Solid}
 use Rattle.tables.specs.declared.Judgement as Judgement
 use Rattle.solids.specs.declared.Written as Written
-use Rattle.solids.specs.Reading.{solid-of}
-use Rattle.solids.specs.Writing.{Writes, tables-in, fitted, wrote, itself, Sound, FittedTold, WriteTold}
-use Rattle.solids.proofs.TextLines.{planes-all, entries-all, plane-each, node-each}
-use Rattle.solids.proofs.Tables.{zeros-held}
+use Rattle.lines.specs.Reading.{solid-of}
+use Rattle.lines.specs.Writing.{Writes, tables-in}
+use Rattle.solids.specs.Writing.{fitted, wrote, itself, Sound, FittedTold, WriteTold}
+use Rattle.lines.proofs.TextLines.{planes-all, entries-all, plane-each, node-each}
+use Rattle.lines.proofs.Tables.{zeros-held}
 
 -- ---- what stands in sound tables
 

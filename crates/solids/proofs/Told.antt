@@ -1,13 +1,11 @@
--- From the lines of a solid to the promise of the public call.
---     whole-solid, solid-told      head, rows and end
+-- From a solid that was read to the promise of the public call.
 --     into-long, into-short, into-refused, into-sound, into-more, into-told   a text
 --     solid-inside                 where the text goes on after a solid
 --     read-sound, read-refused, told-sound, told-refused   the answer, and what is left in the tables
 use mathlib.Core.Path.{_≡_, refl, sym, ap, subst, _∙_}
 use mathlib.Core.Bool.{Bool, true, false, cond}
 use mathlib.Core.List.{List, []}
-use mathlib.Core.Option.{none}
-use Prim.Native.Nat.{ℕ, suc, _+_, _-_, _/_, _≤_, _<_}
+use Prim.Native.Nat.{ℕ, _-_, _/_, _≤_, _<_}
 use native.Mathlib.Omega.{arith}
 use lib.Dec.{leb}
 use lib.IntN.{ℤ, pos}
@@ -15,57 +13,18 @@ use lib.ListN.{length, drop, replicate}
 use borrow.Author.Tests.{le-leb, lt-leb}
 use Rattle.scope.specs.Limits.{stated, most-text}
 use Rattle.scope.specs.Solids.{tables}
-use Rattle.scope.specs.Text.{head, frames}
-use Rattle.scope.specs.Judging.{Rooms, fresh, busy, judge-head, read, refused, read-solid, refusal, finish, judge}
+use Rattle.scope.specs.Text.{frames}
+use Rattle.scope.specs.Judging.{Rooms, fresh, read, refused, read-solid, refusal, finish, judge}
 use Rattle.scope.specs.Answers.{given, solid-then, plane-numbers, node-numbers, filled, left, read-answer}
 use Rattle.scope.specs.Answers as answers
-use Rattle.frames.specs.Promises.{Reads, Follows}
-use Rattle.tables.specs.declared.Judged as Judged
+use Rattle.frames.specs.Promises.{Follows}
 use Rattle.tables.specs.declared.Judgement as Judgement
 use Rattle.tables.specs.declared.Solid.{Solid}
-use Rattle.tables.specs.Promises.{judged}
-use Rattle.solids.specs.declared.LinesRead as LinesRead
-use Rattle.solids.specs.declared.SolidRead as SolidRead
-use Rattle.solids.specs.Lines.{FinishIn, Finished, not-read, at-end, more}
-use Rattle.solids.specs.Reading.{RowsRead, RowsTold, whole-of, rooms, WholeSolid, SolidTold, verdict, judgement, Into, IntoTold, ReadTold}
-use Rattle.solids.proofs.Whole.{head-read, HeadTaken, head-taken, finish-read, finish-more, finish-refused}
-
--- ---- a solid
-
-module _ (a : Rooms) (l n m r : ℕ) {t : List ℕ} {from next : ℕ} (h : Reads t from (head n m r) 13 next) (fine : judged (judge-head a n m r) ≡ Judged.the-variants.Fine) where
-  abbrev counts : Solid
-  counts = record { planes = n; nodes = m; root = r }
-
-  opened : read-solid a fresh l (frames (drop from t)) ≡ read-solid a (busy n m r none [] [] []) (l + 1) (frames (drop next t))
-  opened = head-read a l n m r (h .first) fine ∙ ap (λ j. read-solid a (busy n m r none [] [] []) j (frames (drop next t))) {x = suc l} {y = l + 1} (omega arith)
-
-  pub solid-refused : {k j : ℕ} → ((b : Rooms) → read-solid b (busy n m r none [] [] []) (l + 1) (frames (drop next t)) ≡ refused k j) → read-solid a fresh l (frames (drop from t)) ≡ refused k j
-  solid-refused e = opened ∙ e a
-
-  pub whole-solid : {xs : List ℤ} {ns : List ℕ} {after : ℕ} → RowsRead t next (l + 1) counts xs ns after → WholeSolid t from l a counts xs ns after (l + 2 + n + m)
-  whole-solid {after = after} q = record {
-    is = tables (q .planes) (q .entries) r;
-    counts = λ i. record { planes = sym (q .plane-count) i; nodes = sym (q .node-count) i; root = r };
-    plane-table = q .plane-table;
-    node-table = q .node-table;
-    inside = q .inside;
-    near = omega (arith, taken .few-planes, taken .few-nodes);
-    reading = opened ∙ q .reading a ∙ ap (λ j. read (tables (q .planes) (q .entries) r) j (frames (drop after t))) line;
-  }
-    where
-      line : l + 1 + n + m + 1 ≡ l + 2 + n + m
-      line = omega arith
-
-      taken : HeadTaken a n m
-      taken = head-taken a n m r fine
-
-  -- what the rows tell, told of the solid
-  pub solid-told : (xs : List ℤ) (ns : List ℕ) (r : LinesRead.LinesRead) {x : SolidRead.SolidRead} → RowsTold t next (l + 1) counts xs ns r → x ≡ whole-of r counts (l + 2 + n + m) → SolidTold t from l a xs ns x
-  solid-told xs ns r h e = subst (SolidTold t from l a xs ns) (sym e) (by r h)
-    where
-      by : (r : LinesRead.LinesRead) → RowsTold t next (l + 1) counts xs ns r → SolidTold t from l a xs ns (whole-of r counts (l + 2 + n + m))
-      by (LinesRead.the-variants.At c d) h = whole-solid h
-      by (LinesRead.the-variants.Refused k j) h = solid-refused h
+use Rattle.lines.specs.declared.SolidRead as SolidRead
+use Rattle.solids.specs.Finish.{FinishIn, Finished, not-read, at-end, more}
+use Rattle.lines.specs.Reading.{rooms, WholeSolid, SolidTold}
+use Rattle.solids.specs.Reading.{verdict, judgement, Into, IntoTold, ReadTold}
+use Rattle.lines.proofs.Whole.{finish-read, finish-more, finish-refused}
 
 -- ---- a text
 

@@ -27,7 +27,8 @@ use Rattle.theory.specs.Text.Trees.{LawfulTables}
 use Rattle.tables.specs.declared.Judgement as Judgement
 use Rattle.tables.specs.declared.Solid.{Solid}
 use Rattle.solids.specs.declared.Written as Written
-use Rattle.solids.specs.Reading.{rooms, solid-of, verdict, judgement, ReadTold}
+use Rattle.lines.specs.Reading.{rooms, solid-of}
+use Rattle.solids.specs.Reading.{verdict, judgement, ReadTold}
 use Rattle.solids.specs.Writing.{wrote, itself, WriteTold}
 
 -- ---- no second answer

@@ -1,4 +1,4 @@
-pub mod Lines
+pub mod Finish
 pub mod Reading
 pub mod Writing
 pub mod Follows

@@ -1,35 +1,20 @@
 // Solids as text, as document 01's "Solids as frames" has it: a text is read into lent tables, and lent tables are written as a text.
-mod reading;
-mod writing;
-
 use frames::AfterEnd;
 use frames::Cursor;
-pub use reading::read_solid;
+use lines::SolidRead;
+use lines::put_solid;
+use lines::read_solid;
 use tables::Judgement;
 use tables::Solid;
-use writing::put_solid;
 ghost use mathlib.Core.Path.{_≡_};
-ghost use Prim.Native.Nat.{_≤_, _<_};
-ghost use lib.IntN.{pos};
+ghost use Prim.Native.Nat.{_<_};
 ghost use lib.ListN.{length, replicate};
-ghost use Rattle.solids.specs.Reading.{Blank, rooms, IntoTold, ReadTold};
-ghost use Rattle.solids.specs.Lines.{FinishIn, Finished};
+ghost use Rattle.lines.specs.Reading.{Blank, rooms};
+ghost use Rattle.solids.specs.Reading.{IntoTold, ReadTold};
+ghost use Rattle.solids.specs.Finish.{FinishIn, Finished};
 ghost use Rattle.solids.specs.Writing.{Sound, FittedTold, WriteTold};
 
 // ---- the answers
-
-// The cursor after the lines that were read, and how many trees the nodes read are, 0 after planes and after the end; or the number and the
-// line that refuse the text.
-pub enum LinesRead {
-    At(Cursor, usize),
-    Refused(u8, usize),
-}
-
-// A solid, the cursor after it and the line that follows it; or the number and the line that refuse the text.
-pub enum SolidRead {
-    Read(Solid, Cursor, usize),
-    Refused(u8, usize),
-}
 
 // How many characters were written, or the number of the refusal.
 pub enum Written {

@@ -12,10 +12,10 @@
 //     IN, OUT, ON, REFUSED number for a point
 // and on the same line ZEROS, if the places past the last entry and the work table are zeros, else LEFT; OVER for counts that the tables
 // cannot hold. A head that is cut short, or that asks for more than the program has, ends the run.
+use points::Told;
 use solids::Written;
 use tables::Judgement;
 use tables::Solid;
-use tables::Told;
 ghost use Prim.Native.Nat.{_≤_};
 ghost use lib.ListN.{length};
 
@@ -176,7 +176,7 @@ fn ask_point(planes: &[i64], nodes: &[u16], root: u16, line: &[u8; 74], work: &m
     let y = signed(line, 20);
     let z = signed(line, 38);
     let w = signed(line, 56);
-    answer(tables::point(planes, nodes, root, x, y, z, w, work));
+    answer(points::point(planes, nodes, root, x, y, z, w, work));
     rest(zeros(work));
 }
 

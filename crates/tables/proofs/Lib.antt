@@ -5,5 +5,4 @@ pub mod Turn
 pub mod Lent
 pub mod Stages
 pub mod Flats
-pub mod Walks
-pub mod Points
+pub mod Soundness

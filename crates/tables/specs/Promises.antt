@@ -2,8 +2,8 @@
 --     judged, judgement          a step and a verdict as the code has them
 --     Ready, Pushes              what a row of nodes is given, and what becomes of the work table
 --     PlanesJudged, NodesJudged  all rows of a table, or the first that is refused
---     Judges, told-answer, Tells the public calls: `judge` and `point`
---     SolidOf, WalkIn, Walked    the walk, of any tree that has the tables
+--     Judges                     the public call
+--     SolidOf                    the tables are those of a lawful tree
 use mathlib.Core.Path.{_≡_}
 use mathlib.Core.Bool.{Bool, false, cond}
 use mathlib.Core.List.{List, [], _∷_}
@@ -13,15 +13,12 @@ use lib.Dec.{leb, eqb}
 use lib.IntN.{ℤ, pos}
 use lib.ListN.{length, getD, replicate}
 use Rattle.whole.specs.Tests.{_or_}
-use Rattle.whole.specs.Sign.{Sign, minus, nought, plus}
-use Rattle.scope.specs.Planes.{Point, side, fault}
-use Rattle.scope.specs.Solids.{IN, OUT, Tree, tables, tables-of, LawfulTree, Reply, marked, ON, reply}
+use Rattle.scope.specs.Planes.{fault}
+use Rattle.scope.specs.Solids.{Tree, tables, tables-of, LawfulTree, marked}
 use Rattle.scope.specs.Limits.{stated}
 use Rattle.scope.specs.Judging.{fresh, judge-head, uses, Step, go, done, stop, follows, plane-by, end-by, Verdict, accepted, refusal, judge-lent}
-use Rattle.scope.specs.Answers.{Answer, given, refused, PointAnswer}
 use Rattle.theory.specs.Text.Counts.{Counted, counted, wrong, size-row}
 use Rattle.theory.specs.Text.Lent.{lent, lent-rooms, Flat}
-use Rattle.planes.specs.Bounds.{PlaneIn, PointIn}
 use Rattle.tables.specs.Rows.{plane-at, entry-at, last-before, entries-to}
 use Rattle.tables.specs.Work as work
 use Rattle.tables.specs.declared.Solid.{Solid}
@@ -30,8 +27,6 @@ use Rattle.tables.specs.declared.Judgement as Judgement
 use Rattle.tables.specs.declared.Taken as Taken
 use Rattle.tables.specs.declared.Pushed as Pushed
 use Rattle.tables.specs.declared.Stood as Stood
-use Rattle.tables.specs.declared.Told as Told
-use Rattle.tables.specs.declared.Went as Went
 
 -- ---- one row
 
@@ -166,62 +161,7 @@ pub record Judges (xs : List ℤ) (ns : List ℕ) (r : ℕ) (w w′ : List ℤ) 
   pub exact : j ≡ judge-answer (length w) xs ns r
   pub zeros : w′ ≡ replicate (length w) (pos 0)
 
--- ---- the walk
-
--- a row of the planes, and a point, within the limits of a side's sum
-pub record SideIn (xs : List ℤ) (i : ℕ) (X : Point) : Type 0 where
-  pub inside : 4 * i + 3 < length xs
-  pub plane-in : PlaneIn (plane-at xs i .x) (plane-at xs i .y) (plane-at xs i .z) (plane-at xs i .w)
-  pub point-in : PointIn (X .x) (X .y) (X .z) (X .w)
-
--- a row of the nodes, its plane, and a point
-pub record StepIn (xs : List ℤ) (ns : List ℕ) (c : ℕ) (X : Point) : Type 0 where
-  pub row : 3 * c + 2 < length ns
-  pub side-in : SideIn xs (getD ns (3 * c) 0) X
-
--- where a walk goes: to the front code, nowhere, or to the back code
-abbrev pub went : Sign → ℕ → ℕ → Went.Went
-went plus f b = Went.the-variants.To f
-went nought f b = Went.the-variants.On
-went minus f b = Went.the-variants.To b
-
-abbrev pub stepped : List ℤ → List ℕ → ℕ → Point → Went.Went
-stepped xs ns c X = went (side (plane-at xs (getD ns (3 * c) 0)) X) (getD ns (3 * c + 1) 0) (getD ns (3 * c + 2) 0)
-
 -- the tables are those of a lawful tree
 pub record SolidOf (xs : List ℤ) (ns : List ℕ) (r : ℕ) (t : Tree) : Type 0 where
   pub lawful : LawfulTree t
   pub flat : Flat (tables-of t) xs ns r
-
--- what a walk is given: the tables of some lawful tree, and a point in range
-pub record WalkIn (xs : List ℤ) (ns : List ℕ) (r : ℕ) (X : Point) : Type 0 where
-  pub tree : Tree
-  pub solid : SolidOf xs ns r tree
-  pub point-in : PointIn (X .x) (X .y) (X .z) (X .w)
-
--- a reply as the code has it
-abbrev pub told : Reply → Told.Told
-told (marked IN) = Told.the-variants.In
-told (marked OUT) = Told.the-variants.Out
-told ON = Told.the-variants.On
-
--- the reply of the tree that has these tables
-pub record Walked (xs : List ℤ) (ns : List ℕ) (r : ℕ) (X : Point) (a : Told.Told) : Type 0 where
-  pub exact : (t : Tree) → SolidOf xs ns r t → a ≡ told (reply t X)
-
--- the number of a refusal; 0 for a solid that is sound, which is not asked
-abbrev pub number-of : Judgement.Judgement → Told.Told
-number-of (Judgement.the-variants.Sound s) = Told.the-variants.Refused 0
-number-of (Judgement.the-variants.Refused k l) = Told.the-variants.Refused k
-
--- IN, OUT or ON, or the number of the refusal
-abbrev pub told-answer : Told.Told → Answer Reply
-told-answer Told.the-variants.In = given (marked IN)
-told-answer Told.the-variants.Out = given (marked OUT)
-told-answer Told.the-variants.On = given ON
-told-answer (Told.the-variants.Refused k) = refused k
-
--- `point`: the answer, and a work table of zeros whatever it is
-pub record Tells (xs : List ℤ) (ns : List ℕ) (r : ℕ) (X : Point) (w w′ : List ℤ) (a : Told.Told) : Type 0 where
-  pub answer : PointAnswer (length w) (lent xs ns r) X (told-answer a)
-  pub zeros : w′ ≡ replicate (length w) (pos 0)

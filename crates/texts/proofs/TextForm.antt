@@ -19,7 +19,8 @@ use Rattle.theory.specs.Text.Judge.{judge-read}
 use Rattle.tables.specs.declared.Solid.{Solid}
 use Rattle.tables.specs.declared.Judgement as Judgement
 use Rattle.solids.specs.declared.Written as Written
-use Rattle.solids.specs.Reading.{rooms, judgement, ReadTold}
+use Rattle.lines.specs.Reading.{rooms}
+use Rattle.solids.specs.Reading.{judgement, ReadTold}
 use Rattle.solids.specs.Follows.{read-given}
 use Rattle.solids.specs.Follows as reading
 use Rattle.results.specs.declared.Given.{Given}

@@ -4,11 +4,11 @@
 pub use forms::normal;
 pub use merging::merge;
 use outputs::refuse;
+pub use points::point;
 pub use sections::section;
 use solids::Written;
 pub use solids::read;
 pub use solids::write;
-pub use tables::point;
 ghost use Rattle.texts.specs.Answers.{merging, forming};
 ghost use Rattle.zones.specs.Promises.{TextTold};
 

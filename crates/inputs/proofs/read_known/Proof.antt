@@ -6,7 +6,7 @@ use native.Mathlib.Omega.{arith}
 use borrow.Author.Tests.{ltb-true, ltb-false}
 use denote.Ref.{now}
 use Rattle.scope.specs.Judging.{known}
-use Rattle.solids.specs.Reading.{rooms, WholeSolid, SolidTold}
+use Rattle.lines.specs.Reading.{rooms, WholeSolid, SolidTold}
 use Rattle.inputs.proofs.Input.{lent-rooms, none-is, over-is, known-is, unknown, first-refused, both-told}
 use borrow.Author.Needs.{needs}
 use Rattle.inputs.proofs.read_known.Statement.{statement}

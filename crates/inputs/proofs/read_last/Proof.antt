@@ -2,7 +2,7 @@
 use native.Mathlib.Omega.{arith}
 use lib.IntN.{pos}
 use denote.Ref.{now}
-use Rattle.solids.specs.Reading.{rooms}
+use Rattle.lines.specs.Reading.{rooms}
 use Rattle.zeros.proofs.Fill.{cleared}
 use Rattle.solids.proofs.Told.{solid-inside}
 use Rattle.inputs.proofs.Input.{lent-rooms, last-told}

@@ -2,7 +2,7 @@
 use mathlib.Core.Path.{subst}
 use mir.Facts.{toZ-ofZ}
 use denote.Ref.{now}
-use Rattle.tables.specs.Promises.{Tells}
+use Rattle.points.specs.Promises.{Tells}
 use Rattle.planes.specs.Values.{quad}
 use borrow.Author.Needs.{needs}
 use Rattle.skopelyne.proofs.skopelyne_point.Statement.{statement}

@@ -1,7 +1,7 @@
 -- `solids::finished` meets its contract (proofs/Glue). Assumes nothing.
 use mathlib.Core.Path.{subst}
 use denote.Ref.{now}
-use Rattle.solids.specs.Lines.{FinishIn}
+use Rattle.solids.specs.Finish.{FinishIn}
 use Rattle.solids.proofs.Glue.{finished-refused, finished-end, finished-more}
 use borrow.Author.Needs.{needs}
 use Rattle.solids.proofs.finished.Statement.{statement}

@@ -2,7 +2,7 @@
 use native.Mathlib.Omega.{arith}
 use lib.ListN.{length}
 use denote.Ref.{now}
-use Rattle.solids.specs.Reading.{rooms}
+use Rattle.lines.specs.Reading.{rooms}
 use Rattle.solids.proofs.Told.{into-short, into-long, into-told, solid-inside}
 use borrow.Author.Needs.{needs}
 use Rattle.solids.proofs.read_into.Statement.{statement}
