@@ -1,11 +1,8 @@
-// The tables of a solid, judged row by row as document 01's "What may be refused" has it, and the walk of a point down its tree.
-// Planes are four numbers a row, nodes three: plane number, front code, back code. `judge_rows`, `judge` and `point` take any numbers.
+// The tables of a solid, judged row by row as document 01's "What may be refused" has it.
+// Planes are four numbers a row, nodes three: plane number, front code, back code. `judge_rows` and `judge` take any numbers.
 use planes::MadePlane;
-use planes::MadePoint;
 use planes::Order;
 use planes::Plane;
-use planes::Point;
-use planes::Side;
 ghost use mathlib.Core.Path.{_≡_};
 ghost use Prim.Native.Nat.{_+_, _*_, _-_, _/_, _<_, _≤_};
 ghost use lib.Dec.{leb};

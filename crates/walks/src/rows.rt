@@ -2,7 +2,6 @@
 // A walk is in A or, below a leaf of A, in B. The number `mark` tells which: 0 in A, and in B the mark of that leaf of A.
 use crate::Ended;
 use crate::Walked;
-use planes::Plane;
 use tables::Solid;
 ghost use mathlib.Core.Path.{_≡_};
 ghost use Prim.Native.Nat.{_+_, _*_, _<_};
