@@ -2,6 +2,8 @@
 // on the plane tells each (module `sides`).
 // `planes` is the joined list, `a` and `b` are the operands' rows, `numbers` the operands' planes in the list, `path` the way to a cell;
 // `first` and `second` are room for a section.
+#![tactic(auto)]
+
 mod sides;
 
 ghost use Rattle.std.specs.Prelude.{◌<◌, length};

@@ -3,6 +3,8 @@
 // The stack is a table of corners as `polygons` has them, five numbers a corner. The half-spaces stand in a table of both sides of each
 // plane of a list, four numbers a row, row 2i plane i's front and row 2i + 1 its back: as bounds they have the indices 6 + 2i and 7 + 2i,
 // and an index below 6 is a side of the box.
+#![tactic(auto)]
+
 mod parting;
 mod splitting;
 mod table;

@@ -2,6 +2,8 @@
 // A path is a stack of kept half-spaces, nine numbers a row: the half-space a, b, c, d, the witness x, y, z, w of its cut, a point that lies
 // on its plane and in the cell of the rows before it, and the row's link. A row that holds row i's half-space need not be asked after row i:
 // row i's link is the place where the row ends that is asked next.
+#![tactic(auto)]
+
 ghost use Rattle.std.specs.Prelude.{◌≡◌, true, false, [], ◌++◌, ◌+◌, ◌*◌, ◌≤◌, length};
 ghost use Rattle.std.proofs.lemmas.List.Edits.{sets};
 ghost use Rattle.scope.specs.Planes.{flip};

@@ -1,5 +1,7 @@
 // Whether a plane cuts the cell of a path, with a point that shows it.
 // A path is a stack of half-spaces, nine numbers a row: a half-space a, b, c, d, a point x, y, z, w that `cut` has no use for, and a link.
+#![tactic(auto)]
+
 mod blocks;
 mod stops;
 

@@ -3,6 +3,8 @@
 // front of the plane and behind it. A piece on whose two sides the operation has different marks is a facet, and goes down the form.
 // `hs` are both sides of the joined planes, `rows` is the forest, `list` the numbers of the planes listed, `form` the table of the form,
 // `path` the way to a cell of it, `poly` the stack of polygons; `first` and `second` are room for a section.
+#![tactic(auto)]
+
 mod ends;
 mod walking;
 

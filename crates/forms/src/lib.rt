@@ -2,6 +2,8 @@
 // All is done for an operation of two solids A and B over one joined list of planes; a single solid is its union with the empty solid.
 // First the boundary planes are listed, then the box is split by them, and the planes that rows use, which are the boundary planes, become
 // the form's list. A's planes and nodes are ap, an, and B's bp, bn; the pair has the operation and both root codes.
+#![tactic(auto)]
+
 ghost use Rattle.std.specs.Prelude.{◌≤◌, length};
 ghost use Rattle.results.specs.Results.{ZerosIn};
 ghost use Rattle.results.specs.Operands.{SoundIn, LentIn};

@@ -1,6 +1,8 @@
 // Frames, as document 01's "Solids as frames" has them: one frame of a text is read at a cursor, and one is written at a position.
 // A reading call gives the frame that is due and the cursor after its line; else 1 for a line that is malformed, 2 for a frame of another
 // kind or length and for missing text. A writing call writes one line and gives the position after it.
+#![tactic(auto)]
+
 mod characters;
 mod line;
 mod number;

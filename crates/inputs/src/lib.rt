@@ -1,4 +1,6 @@
 // The input of a merge, as document 01 has it: a line with the operation, then the solids A and B, in one text.
+#![tactic(auto)]
+
 ghost use Rattle.std.specs.Prelude.{◌≡◌};
 ghost use Rattle.inputs.specs.Orders.{OrderIn, OrderTold};
 ghost use Rattle.inputs.specs.Steps.{LastIn, LastTold, not_read, not_operation, order_of, after_operation, KnownIn, KnownTold};

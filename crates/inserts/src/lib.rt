@@ -2,6 +2,8 @@
 // parts it. A leaf that it enters becomes a row (crate `leaves`).
 // `hs` are both sides of the joined planes, `rows` is the forest, `list` the numbers of the planes listed, `form` the table of the form,
 // `path` the way to a cell of it, `poly` the stack of polygons; `first` and `second` are room for a section.
+#![tactic(auto)]
+
 ghost use Rattle.inserts.specs.Inserts.{KeepIn, Kept, DescendIn, DescendTold, InsertIn, InsertTold};
 
 use carried::{Halves, Parted, Piece, part, split};

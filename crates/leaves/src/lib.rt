@@ -3,6 +3,8 @@
 // A leaf that a facet has entered becomes a row, of the first listed plane that cuts its cell.
 // `hs` are both sides of the joined planes, `rows` is the forest, `list` the numbers of the planes listed, `form` the table, `path` the way
 // to a cell of the form; `first` and `second` are room for a section.
+#![tactic(auto)]
+
 ghost use Rattle.std.specs.Prelude.{length};
 ghost use Rattle.leaves.specs.Leaves.{FirstIn, FirstTold, PutIn, PutTold, CreateIn, RowedIn, RowedTold};
 

@@ -1,4 +1,6 @@
 // The lines of a solid: read one after the other into lent tables, each judged by the rows before it, and written.
+#![tactic(auto)]
+
 mod reading;
 mod writing;
 

@@ -1,4 +1,6 @@
 // Plane lists: those of two solids joined into one, and the planes that rows still use listed anew.
+#![tactic(auto)]
+
 ghost use Rattle.std.specs.Prelude.{◌≡◌, [], ◌∷◌, ◌+◌, ◌*◌, ◌≤◌, ◌<◌, length};
 ghost use Rattle.std.proofs.lemmas.List.Edits.{sets};
 ghost use Rattle.lists.specs.Lists.{JoinIn, JoinTold, ListIn, ListTold};

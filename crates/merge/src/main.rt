@@ -1,4 +1,6 @@
 // The merge program: operation, A and B from standard input. It prints the merged solid, or one 0F line, and nothing else.
+#![tactic(auto)]
+
 use solids::Written;
 
 // The first n bytes of a text. It has that many: the test is for the slice alone, since the promise of `merge_text` is not asked for here.

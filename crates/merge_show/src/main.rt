@@ -3,6 +3,8 @@
 //     text    that many bytes, whichever they are
 // It prints for each case what the merge of the text answers, the merged solid or one 0F line, and then --. A head or a text that is cut
 // short ends the run.
+#![tactic(auto)]
+
 use solids::Written;
 
 // Prints bytes.

@@ -1,6 +1,8 @@
 // The merge of two solids, as document 01's "Cells and the merge" has it: lent tables in, lent tables out.
 // The planes of A and B become one ascending list; the walks put rows out with its numbers. Then the planes that no row uses go, and the
 // rows' numbers change. A's planes, nodes and root code are ap, an, ar, and B's bp, bn, br.
+#![tactic(auto)]
+
 ghost use Rattle.std.specs.Prelude.{◌≡◌, length};
 ghost use Rattle.scope.specs.Judging.{known as is_known};
 ghost use Rattle.results.specs.Results.{ZerosIn};

@@ -1,4 +1,6 @@
 // The normal program: a solid from standard input. It prints the solid's normal form, or one 0F line, and nothing else.
+#![tactic(auto)]
+
 use solids::Written;
 
 // The first n bytes of a text.

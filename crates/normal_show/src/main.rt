@@ -5,6 +5,8 @@
 // It prints for each case what the normal form of A, of B and of C answers, the form or one 0F line, each followed by --. Then a line of nine
 // signs: for each of eight laws whether both its sides have the same normal form, byte for byte (= or !, R if a merge or a form was
 // refused), and last the same for A minus B and B minus A, which is no law. A head or a text that is cut short ends the run.
+#![tactic(auto)]
+
 use solids::Written;
 
 const UNION: u8 = 1;

@@ -1,6 +1,8 @@
 // The rows of the form, which stand in the order in which they grew, put out in post-order: document 01's order of the rows of a solid.
 // `list` has the numbers of the listed planes, `form` the form's rows as `leaves` has them; the rows put out stand in `out`, and `next` is how
 // many they are.
+#![tactic(auto)]
+
 ghost use Rattle.ordering.specs.Ordering.{OrderIn, OrderTold};
 
 use tables::Solid;

@@ -1,4 +1,6 @@
 // The solid that a merge or a normal form gave, written as text.
+#![tactic(auto)]
+
 ghost use Rattle.outputs.specs.Outputs.{Refuses, not_given, WriteIn, WriteTold};
 
 use results::Given;

@@ -1,5 +1,7 @@
 // Planes and points, as document 01's "Numbers" has them: lawful planes, the side of a point, where three planes meet, the side of that
 // point, coincidence and order. Every call is total: it takes any numbers, and refuses those that are out of range.
+#![tactic(auto)]
+
 mod number;
 mod orders;
 mod signs;

@@ -1,5 +1,7 @@
 // Prints what each call of planes answers, a line for each: every fault, each limit and one past it in both directions, sides, meetings
 // with a determinant of either sign, orders and coincidences.
+#![tactic(auto)]
+
 mod show;
 
 use planes::{Plane, Point};

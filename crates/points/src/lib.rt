@@ -1,4 +1,6 @@
 // Where a point lies: the walk of a point through the rows of a solid, as document 01 has it.
+#![tactic(auto)]
+
 ghost use Rattle.std.specs.Prelude.{◌≡◌, ◌+◌, ◌*◌, ◌-◌, ◌<◌};
 ghost use Rattle.scope.specs.Planes.{side};
 ghost use Rattle.planes.specs.Values.{quad, point, side_is};

@@ -1,6 +1,8 @@
 // Polygons of a section: the start, and a clip by one bound, as document 01's "Section of a region by a plane" has them.
 // A polygon stands in a table, five numbers a corner: the index of the corner's bound, and the vertex x, y, z, w at which the bound's edge
 // starts. An index below 6 is a side of the box, x-, x+, y-, y+, z-, z+; the half-space of row i has the index 6 + i.
+#![tactic(auto)]
+
 mod clipping;
 mod codes;
 mod lines;

@@ -1,5 +1,7 @@
 // What a merge and a normal form share: two solids whose planes are joined in one list, and the rows of a tree put out as the tables of a
 // solid that is given. `list` is the joined list; rows are numbered by it, and then by the planes that they use.
+#![tactic(auto)]
+
 ghost use Rattle.std.specs.Prelude.{◌≡◌};
 ghost use Rattle.results.specs.Results.{listed_as, not_walked, not_sound, Wiped};
 ghost use Rattle.results.specs.Putting.{PutIn, PutTold};

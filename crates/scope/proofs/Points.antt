@@ -31,6 +31,7 @@ unfolding tested
 test c X t = record { each = λ h i. go c t h i }
   where
     go : (c : List Plane) → T (tested c X) → (h : Plane) → h ∈ c → pos 0 ⋖ at h X
+    go [] t h m = elim m [ ]
     go (g ∷ c) t h (here e) = let u = and_split (lt_z (pos 0) (at g X)) (tested c X) t in rw e (record { lt = u.0 })
     go (g ∷ c) t h (there n) = let u = and_split (lt_z (pos 0) (at g X)) (tested c X) t in go c u.1 h n
 

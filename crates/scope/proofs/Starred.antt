@@ -112,6 +112,7 @@ marks σ false b d e = rw d
 of_two : (Q : Plane → Type 0) → Q px → Q py → (q : Plane) → q ∈ S.list → Q q
 of_two Q h k q (here e) = subst Q (sym e) h
 of_two Q h k q (there (here e)) = subst Q (sym e) k
+of_two Q h k q (there (there m)) = elim m [ ]
 
 y_boundary : Boundary S py
 unfolding at box tested walk taking equal front

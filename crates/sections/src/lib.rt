@@ -1,4 +1,6 @@
 // The section of a region by a plane, as document 01's "Section of a region by a plane" has it.
+#![tactic(auto)]
+
 ghost use Rattle.std.specs.Prelude.{◌≡◌, ◌∷◌, ◌++◌, map, ◌+◌, ◌*◌, ◌≤◌, pos, length, replicate};
 ghost use Rattle.std.proofs.lemmas.List.Edits.{sets};
 ghost use Rattle.scope.specs.Section.{way, rest};

@@ -1,5 +1,7 @@
 // Runs sections. Standard input holds cases: a plane and its half-spaces, frames 02, ended by 04. It prints a line for each bound, or
 // NOTHING, or the number of the refusal, and -- after each case.
+#![tactic(auto)]
+
 ghost use Rattle.std.specs.Prelude.{◌≤◌, ◌<◌, length};
 
 use frames::{Cursor, Got};

@@ -1,6 +1,8 @@
 // The calls of the public page for programs in C and in Rust, as functions of a static library. Each takes every input and answers: the
 // number of the refusal, or 0. What an answer counts stands in places lent for it, zeros after a refusal. A table crosses as a pointer and
 // a length; that the two are true, and that nothing lent to be written overlaps anything else, is all that is asked of a caller.
+#![tactic(auto)]
+
 ghost use Rattle.std.specs.Prelude.{◌≡◌};
 ghost use Rattle.planes.specs.Values.{quad};
 ghost use Rattle.theory.specs.Text.Lent.{lent};

@@ -1,4 +1,6 @@
 // Solids as text, as document 01's "Solids as frames" has it: a text is read into lent tables, and lent tables are written as a text.
+#![tactic(auto)]
+
 ghost use Rattle.std.specs.Prelude.{◌≡◌, ◌<◌, length, replicate};
 ghost use Rattle.lines.specs.Reading.{Blank, rooms};
 ghost use Rattle.solids.specs.Reading.{IntoTold, ReadTold};

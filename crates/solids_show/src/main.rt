@@ -12,6 +12,8 @@
 //     IN, OUT, ON, REFUSED number for a point
 // and on the same line ZEROS, if the places past the last entry and the work table are zeros, else LEFT; OVER for counts that the tables
 // cannot hold. A head that is cut short, or that asks for more than the program has, ends the run.
+#![tactic(auto)]
+
 ghost use Rattle.std.specs.Prelude.{◌≤◌, length};
 
 use points::Told;

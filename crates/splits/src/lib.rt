@@ -4,6 +4,8 @@
 // All is done for an operation of two trees A and B; `planes` is the joined list, `numbers` the operands' planes in it, `boundary` the
 // numbers in it of the boundary planes, ascending; `path` is the way to the cell, `first` and `second` are room for a section; the rows put
 // out stand in `out`, and `next` is how many they are.
+#![tactic(auto)]
+
 ghost use Rattle.std.specs.Prelude.{◌+◌, ◌<◌, length};
 ghost use Rattle.splits.specs.Splits.{KindIn, KindTold, ScanIn, FirstTold, CellIn, HalvesIn, Formed, Halved};
 

@@ -1,5 +1,7 @@
 // The tables of a solid, judged row by row as document 01's "What may be refused" has it.
 // Planes are four numbers a row, nodes three: plane number, front code, back code. `judge_rows` and `judge` take any numbers.
+#![tactic(auto)]
+
 ghost use Rattle.std.specs.Prelude.{◌≡◌, ◌+◌, ◌*◌, ◌-◌, ◌/◌, ◌<◌, ◌≤◌, leb, pos, nat_abs, length, get_or};
 ghost use Rattle.whole.specs.Tests.{◌and◌};
 ghost use Rattle.scope.specs.Judging.{root_ok, judge_head, follows, judge_lent};

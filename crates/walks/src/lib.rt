@@ -3,6 +3,8 @@
 // closes the node. Rows are put out in post-order and never taken back.
 // `planes` is the joined list, `numbers` the operands' planes in it, `path` the way to the cell; `first` and `second` are room for a section;
 // the rows put out stand in `out`, and `next` is how many they are.
+#![tactic(auto)]
+
 mod rows;
 
 ghost use Rattle.std.specs.Prelude.{◌≡◌, ◌+◌, ◌<◌};

@@ -32,6 +32,7 @@ module _ {A : Type 0} where
 
   -- what holds of each entry, by its members and as a list
   pub each_in : {Q : A → Type 0} {ps : List A} → Each Q ps → (p : A) → p ∈ ps → Q p
+  each_in none p m = elim m [ ]
   each_in (q and e) p (here d) = rw d q
   each_in (q and e) p (there m) = each_in e p m
 
@@ -42,16 +43,19 @@ module _ {A : Type 0} where
   -- ---- the list without one place
 
   pub without : {p : A} (ps : List A) → p ∈ ps → List A
+  without [] m = elim m [ ]
   without (q ∷ ps) (here e) = ps
   without (q ∷ ps) (there m) = q ∷ without ps m
 
   pub without_length : {p : A} (ps : List A) (m : p ∈ ps) → length ps ≡ suc (length (without ps m))
   unfolding without
+  without_length [] m = elim m [ ]
   without_length (q ∷ ps) (here e) = refl
   without_length (q ∷ ps) (there m) = omega (arith, without_length ps m)
 
   pub without_in : {p q : A} (ps : List A) (m : p ∈ ps) → q ∈ ps → q ≢ p → q ∈ without ps m
   unfolding without
+  without_in [] m k n = elim m [ ]
   without_in (r ∷ ps) (here e) (here d) n = absurd (n (d ∙ sym e))
   without_in (r ∷ ps) (here e) (there k) n = k
   without_in (r ∷ ps) (there m) (here d) n = here d

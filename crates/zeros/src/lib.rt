@@ -1,5 +1,7 @@
 // Tables of zeros. A call makes each table lent for its result zero, the whole slice, before it writes an answer, and again after a refusal
 // that may follow such writing. It leaves its work table zero. Operands are not written.
+#![tactic(auto)]
+
 ghost use Rattle.std.specs.Prelude.{◌≡◌, pos, length, replicate};
 
 // The length stated for a work table.

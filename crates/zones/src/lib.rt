@@ -1,6 +1,8 @@
 // The public page: every call on solids and sections. None has a precondition; each refuses by number and leaves every lent table as document 01
 // says. Beside the calls of the crates below stand `merge_text` and `normal_text`, the merge and the normal form of a text: what the programs
 // run.
+#![tactic(auto)]
+
 ghost use Rattle.texts.specs.Answers.{merging, forming};
 ghost use Rattle.zones.specs.Promises.{TextTold};
 

@@ -77,6 +77,7 @@ far_1 (g ∷ G) t = lin (nums 2) (λ k s. (# 1 ≦ k) ∷ (# 0 ≦ s ⊗ s) ∷ 
 
 far_in : {g : Plane} (G : List Plane) (t : Point) → g ∈ G → pos 1 +ℤ at g t *ℤ at g t ⩽ far G t
 unfolding far
+far_in {g = g} [] t x' = elim x' [ ]
 far_in {g} (h ∷ G) t (here e) = rw e (lin (nums 2) (λ k s. (# 1 ≦ k) ∷ [] ⊢ # 1 ⊕ s ⊗ s ≦ k ⊕ s ⊗ s) (omega arith) (far G t) (at h t) (far_1 G t))
 far_in {g} (h ∷ G) t (there m) = lin (nums 3) (λ k s u. (# 1 ⊕ u ⊗ u ≦ k) ∷ (# 0 ≦ s ⊗ s) ∷ [] ⊢ # 1 ⊕ u ⊗ u ≦ k ⊕ s ⊗ s) (omega arith) (far G t) (at h t) (at g t) (far_in G t m) (sq_nonneg (at h t))
 

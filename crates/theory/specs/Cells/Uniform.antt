@@ -11,7 +11,7 @@ use Rattle.scope.specs.Normal.{Space, both, Uniform}
 use Rattle.theory.specs.Cells.Reached.{Cell, Decider}
 use Rattle.theory.specs.Cells.Box.{tail, head}
 use Rattle.theory.specs.Cells.Sides.{half_front, half_back}
-use Rattle.theory.specs.Cells.Walk.{EachPlane, Tight, tight_node, merged_tight, merged_answers, merged_some, merged_each, each_p, each_f, each_b}
+use Rattle.theory.specs.Cells.Walk.{tight_leaf, EachPlane, Tight, tight_node, merged_tight, merged_answers, merged_some, merged_each, each_p, each_f, each_b}
 use Rattle.theory.specs.Planes.General.{Nonzero}
 use Rattle.theory.specs.Cells.Clear.{clear_off, keeps_inside}
 
@@ -45,10 +45,13 @@ join_kind p (one OUT) (one OUT) = one OUT
 join_kind p {f} {b} (two s) k = go f s
   where
     go : (f : Tree) → Split f → Kind (join p f b)
+    go (leaf _) s = elim s [ ]
     go (node q g h) s = two (under_front s)
 join_kind p {b = b} (one m) (two s) = go m b s
   where
     go : (m : Mark) (b : Tree) → Split b → Kind (join p (leaf m) b)
+    go IN (leaf _) s = elim s [ ]
+    go OUT (leaf _) s = elim s [ ]
     go IN (node q g h) s = two (under_back s)
     go OUT (node q g h) s = two (under_back s)
 
@@ -83,6 +86,7 @@ module _ (qs : List Plane) (n : (q : Plane) → q ∈ qs → Nonzero q) where
   in_back {p = p} u = record { point = u.point; inside = tail u.inside; off = u.off; says = rw (front_false p u.point (flip_back p u.point (head u.inside))) u.says }
 
   shown : {c : List Plane} {r : Tree} → EachPlane Nonzero r → Tight c r → Split r → (m : Mark) → Shown c qs r m
+  shown e (tight_leaf {c = c}) s m = elim s [ ]
   shown e (tight_node k u v) in_out IN = in_front (at_leaf IN (half_front (each_p e) k).1)
   shown e (tight_node k u v) in_out OUT = in_back (at_leaf OUT (half_back (each_p e) k).1)
   shown e (tight_node k u v) out_in OUT = in_front (at_leaf OUT (half_front (each_p e) k).1)

@@ -136,6 +136,7 @@ ascending_same (q ∷ qs) = let k = ascending_same qs in record { to = λ s m. r
 
 pub place_at : {p : Plane} {ps : List Plane} → p ∈ ps → get_elem? ps (place ps p) ≡ some p
 unfolding place
+place_at {p = p} {ps = []} m = elim m [ ]
 place_at {p} {ps = q ∷ qs} m = go (equal q p) (equal_of q p) refl m (λ (k : p ∈ qs). place_at k)
   where
     go : (b : Bool) → (T b → q ≡ p) → equal q p ≡ b → p ∈ (q ∷ qs) → (p ∈ qs → get_elem? qs (place qs p) ≡ some p) → get_elem? (q ∷ qs) (cond b 0 (suc (place qs p))) ≡ some p

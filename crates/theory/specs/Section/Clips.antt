@@ -142,7 +142,7 @@ module _ {f : Plane → Plane} (t : Turns f) (s : Plane) (k : pos 0 ⋖ (f s).x)
 
   -- ---- the vertices
 
-  chain_up : {a c : Corner} {zs : List Corner} → Chain Step c a zs → Each Up zs → Up c → Chain (λ p q. pos 0 ⋖ dt ez (cr p q)) c.l a.l (lines zs)
+  chain_up : {c a : Corner} {zs : List Corner} → Chain Step c a zs → Each Up zs → Up c → Chain (λ p q. pos 0 ⋖ dt ez (cr p q)) c.l a.l (lines zs)
   chain_up (end st) none u = end (rw st.meet at u)
   chain_up (step st h) (v and vs) u = step (rw st.meet at v) (chain_up h vs u)
 

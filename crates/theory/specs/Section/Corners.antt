@@ -51,7 +51,7 @@ pub at_each : {A : Type 0} {Q : A → Type 0} (xs : List A) (d : A) → ((i : �
 at_each [] d f = none
 at_each (x ∷ xs) d f = f 0 (omega arith) and at_each xs d (λ i l. f (suc i) (omega arith))
 
-chain_at : {A : Type 0} {R : A → A → Type 0} {a c : A} {xs : List A} (d : A) → Chain R c a xs → (i : ℕ) → i < length xs → R (get_or (a ∷ xs) i d) (get_or xs i d)
+chain_at : {A : Type 0} {R : A → A → Type 0} {c a : A} {xs : List A} (d : A) → Chain R c a xs → (i : ℕ) → i < length xs → R (get_or (a ∷ xs) i d) (get_or xs i d)
 chain_at d (end r) i l = absurd (omega arith)
 chain_at d (step r k) zero l = r
 chain_at d (step r k) (suc i) l = chain_at d k i (omega arith)

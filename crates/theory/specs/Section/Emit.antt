@@ -105,7 +105,7 @@ module _ {A : Type 0} (h : A) where
   -- before a vertex inside, those not inside put out h and their last bound
   emit_low : {q : Sign} (e : Sign × A) (es : List (Sign × A)) → Low q → Each (λ (e : Sign × A). Low e.0) (e ∷ es) → emit h q (e ∷ es) plus ≡ h ∷ (final e es).1 ∷ []
   emit_low e [] lq (l and ls) = rw (rises lq l)
-  emit_low {q} e (e' ∷ es) lq (l and l' and ls) = rw (quiet q l l') (emit_low e' es l (l' and ls))
+  emit_low {q} e (e' ∷ es) lq (l and l' and ls) = rw (quiet q l l') (emit_low {q = e.0} e' es l (l' and ls))
 
   pub emit_fall : (e e' : Sign × A) (es : List (Sign × A)) → Low e.0 → Each (λ (e : Sign × A). Low e.0) (e' ∷ es) → emit h plus (e ∷ e' ∷ es) plus ≡ h ∷ (final e' es).1 ∷ []
   emit_fall e e' es l (l' and ls) = rw (quiet plus l l') (emit_low e' es l (l' and ls))

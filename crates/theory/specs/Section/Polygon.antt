@@ -44,6 +44,9 @@ pub polygon_long : {bs : List (V3 ℤ)} → Polygon bs → 3 ≤ length bs
 polygon_long {bs} p = go p.corners p.same_lines p.convex.size
   where
     go : (Z : List Corner) → bs ≡ lines Z → Long Z → 3 ≤ length bs
+    go [] e l = elim l [ ]
+    go (x ∷ []) e l = elim l [ ]
+    go (x ∷ (y ∷ [])) e l = elim l [ ]
     go (x ∷ y ∷ z ∷ zs) e long = omega (arith, ap length e)
 
 -- ---- rotation
@@ -94,7 +97,7 @@ module _ (h : V3 ℤ) where
   side_ok : {z z' : Corner} → Step z z' → pos 0 ⋖ dt ez z'.v → line_side h z.l z'.l ≡ sgn (dt h z'.v)
   side_ok s u = rw (← s.meet, sgn_above u)
 
-  attach_ok : {a c : Corner} {zs : List Corner} → Chain Step c a zs → Each Up zs → attach (line_side h) a.l (lines zs) ≡ entries zs
+  attach_ok : {c a : Corner} {zs : List Corner} → Chain Step c a zs → Each Up zs → attach (line_side h) a.l (lines zs) ≡ entries zs
   attach_ok (end s) us = refl
   attach_ok (step {b = b} s k) (u and us) = cc (side_ok s u, attach_ok k us)
 

@@ -42,6 +42,7 @@ found_in p [] t = absurd t
 found_in p (q ∷ qs) t = or_split (equal p q) (found p qs) t (λ e. here (equal_of p q e)) (λ e. there (found_in p qs e))
 
 among_in : (ps qs : List Plane) → T (among ps qs) → (p : Plane) → p ∈ ps → p ∈ qs
+among_in [] qs t p x'' = elim x'' [ ]
 among_in (q ∷ ps) qs t p (here e) = rw e (found_in q qs (and_split (found q qs) (among ps qs) t).0)
 among_in (q ∷ ps) qs t p (there m) = among_in ps qs (and_split (found q qs) (among ps qs) t).1 p m
 

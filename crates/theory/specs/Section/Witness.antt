@@ -87,6 +87,9 @@ module _ {f : Plane → Plane} (t : Turns f) (s : Plane) (k : pos 0 ⋖ (f s).x)
     sum_inner p = go p.corners p.same_lines p.convex p.convex.size
       where
         go : (Z : List Corner) → view f s (a ∷ b ∷ c ∷ bs) ≡ lines Z → Convex Z → Long Z → Inner F (view f s (a ∷ b ∷ c ∷ bs)) × (pos 0 ⋖ dt ez F)
+        go [] e c' l = elim l [ ]
+        go (z0 ∷ []) e c' l = elim l [ ]
+        go (z0 ∷ (z1 ∷ [])) e c' l = elim l [ ]
         go (z0 ∷ z1 ∷ z2 ∷ zs) e c' long =
             let ea : z0.l ≡ seen f s a = cc in
             let eb : z1.l ≡ seen f s b = cc in

@@ -83,4 +83,5 @@ pub malformed_content : {l : Line} → Malformed l → content l ≡ none
 unfolding content
 malformed_content empty = refl
 malformed_content without_lf = refl
+malformed_content (unread {l = []} u) = elim u [ ]
 malformed_content (unread {l = c ∷ l} u) = unread_pairs u

@@ -56,6 +56,7 @@ ascending_end p empty h = next {p = p} {ps = []} (λ q m. elim m [ ]) empty
 ascending_end p (next {p = q} {ps = ps} b a) h = next below (ascending_end p a (λ r m. h r (there m)))
   where
     only : {r : Plane} → r ∈ (p ∷ []) → Before q r
+    only {r = r} (there x5) = elim x5 [ ]
     only (here e) = subst (λ i. Before q i) (sym e) (h q (here refl))
 
     below : (r : Plane) → r ∈ (ps ++ (p ∷ [])) → Before q r
@@ -111,6 +112,7 @@ plane_sound s n m r l ps es st p b h t = record {
     wait (suc n) = b.waiting
 
     same : {q : Plane} → q ∈ (p ∷ []) → q ≡ p
+    same {q = q} (there x3) = elim x3 [ ]
     same (here e) = e
 
     after : (q x : Plane) → l ≡ some x → (q ≡ x) ⊎ Before q x → Before q p

@@ -46,6 +46,7 @@ place_tail {p} {q} ps n = ap (λ b. cond b 0 (suc (place ps p))) (is_false (equa
 module _ (g : ℕ → Bool) where
   kept_sub : (k : ℕ) (ps : List Plane) (p : Plane) → p ∈ kept g k ps → p ∈ ps
   unfolding kept
+  kept_sub k [] p m = elim m [ ]
   kept_sub k (q ∷ ps) p m = go (g k) m (kept_sub (suc k) ps p)
     where
       go : (b : Bool) → p ∈ cond b (q ∷ kept g (suc k) ps) (kept g (suc k) ps) → (p ∈ kept g (suc k) ps → p ∈ ps) → p ∈ (q ∷ ps)
@@ -65,6 +66,7 @@ module _ (g : ℕ → Bool) where
   -- a plane of the list is kept exactly if its number is
   kept_in : (k : ℕ) {ps : List Plane} → Ascending ps → (p : Plane) → p ∈ ps → T (g (k + place ps p)) → p ∈ kept g k ps
   unfolding kept
+  kept_in k empty p x5 t = elim x5 [ ]
   kept_in k (next {p = q} {ps = ps} h a) p (here e) t = go (g k) (subst (λ n. T (g n)) zero_place t)
     where
       zero_place : k + place (q ∷ ps) p ≡ k
@@ -84,6 +86,7 @@ module _ (g : ℕ → Bool) where
 
   in_kept : (k : ℕ) {ps : List Plane} → Ascending ps → (p : Plane) → p ∈ kept g k ps → T (g (k + place ps p))
   unfolding kept
+  in_kept k empty p m = elim m [ ]
   in_kept k (next {p = q} {ps = ps} h a) p m = go (g k) refl m (in_kept (suc k) a p)
     where
       tail_in : p ∈ kept g (suc k) ps → T (g (suc k + place ps p)) → T (g (k + place (q ∷ ps) p))
@@ -97,6 +100,7 @@ module _ (g : ℕ → Bool) where
   -- its number among the kept is its rank
   pub kept_place : (k : ℕ) {ps : List Plane} → Ascending ps → (p : Plane) → p ∈ ps → T (g (k + place ps p)) → place (kept g k ps) p ≡ rank g k (place ps p)
   unfolding kept rank
+  kept_place k empty p x5 t = elim x5 [ ]
   kept_place k (next {p = q} {ps = ps} h a) p (here e) t = go (g k) (subst (λ n. T (g n)) (ap (λ n. k + n) (place_head ps e) ∙ (omega arith)) t) ∙ sym (ap (rank g k) (place_head ps e))
     where
       go : (b : Bool) → T b → place (cond b (q ∷ kept g (suc k) ps) (kept g (suc k) ps)) p ≡ 0
