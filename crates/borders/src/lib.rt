@@ -16,7 +16,7 @@ use walks::IN_A;
 // ---- the kinds
 
 // What is put into normal form: an operation, and the root codes of A and of B.
-#[derive(Drop)]
+#[derive(Clone, Copy)]
 pub struct Pair {
     pub op: u8,
     pub ar: u16,
@@ -25,7 +25,7 @@ pub struct Pair {
 
 // Where a walk on a plane is: what is walked, the plane's number in the joined list, the mark of the leaf of A above it, or 0 in A, and
 // the mark of the operation in front of the plane, or 0 while fronts are taken.
-#[derive(Drop)]
+#[derive(Clone, Copy)]
 pub struct Stage {
     pub pair: Pair,
     pub plane: u16,
@@ -34,14 +34,14 @@ pub struct Stage {
 }
 
 // How a walk on a plane passes a row: on both sides, or on one, at whose code it goes on.
-#[derive(Drop)]
+#[derive(Clone, Copy)]
 pub enum Passed {
     Both,
     Code(u16),
 }
 
 // How a row's plane lies to another plane in a cell: that plane has points in front only, behind only, or on both sides.
-#[derive(Drop)]
+#[derive(Clone, Copy)]
 pub enum Parted {
     Front,
     Behind,
@@ -50,14 +50,14 @@ pub enum Parted {
 
 // What follows a leaf in a walk on a plane: the next walk, and its root code; or all four are done, and tell whether the marks of the two
 // sides differ.
-#[derive(Drop)]
+#[derive(Clone, Copy)]
 pub enum Next {
     Walk(Stage, u16),
     Done(Found),
 }
 
 // Whether the marks in front of a plane and behind it differ somewhere on it.
-#[derive(Drop)]
+#[derive(Clone, Copy)]
 pub enum Found {
     Same,
     Differ,

@@ -17,7 +17,7 @@ pub use splitting::split;
 pub use table::both_sides;
 
 // The polygon of plane `plane` of the list that stands on the stack: n corners from place `at` on.
-#[derive(Drop)]
+#[derive(Clone, Copy)]
 pub struct Piece {
     pub plane: usize,
     pub at: usize,
@@ -25,7 +25,7 @@ pub struct Piece {
 }
 
 // On which sides of another plane a polygon has points.
-#[derive(Drop)]
+#[derive(Clone, Copy)]
 pub enum Parted {
     Front,
     Behind,
@@ -33,7 +33,7 @@ pub enum Parted {
 }
 
 // How many corners the two halves of a polygon have.
-#[derive(Drop)]
+#[derive(Clone, Copy)]
 pub struct Halves {
     pub back: usize,
     pub front: usize,

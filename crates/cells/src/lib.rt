@@ -20,7 +20,7 @@ use planes::{Meeting, Plane, Side};
 // ---- the answers
 
 // The plane cuts the cell, and a point shows it; or the cell lies in front of the plane, or behind it.
-#[derive(Drop)]
+#[derive(Clone, Copy)]
 pub enum Classified {
     Cut(Meeting),
     Front,
@@ -28,7 +28,7 @@ pub enum Classified {
 }
 
 // The side of a plane on which a half-space of a path keeps the cell.
-#[derive(Drop)]
+#[derive(Clone, Copy)]
 pub enum Beside {
     Front,
     Behind,

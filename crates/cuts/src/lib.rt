@@ -19,21 +19,21 @@ use stops::stopped;
 // ---- the answers
 
 // A point on the plane and in the cell, or Nothing.
-#[derive(Drop)]
+#[derive(Clone, Copy)]
 pub enum Witnessed {
     At(Meeting),
     Nothing,
 }
 
 // A point on the plane and in the cell, or it is not known whether there is one.
-#[derive(Drop)]
+#[derive(Clone, Copy)]
 pub enum Seen {
     At(Meeting),
     Unknown,
 }
 
 // The index of a bound that a point is not in front of, or none.
-#[derive(Drop)]
+#[derive(Clone, Copy)]
 pub enum Stopped {
     By(usize),
     No,

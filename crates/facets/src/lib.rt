@@ -21,7 +21,7 @@ use walking::walk;
 
 // The plane that is walked on, by its number: whether B is walked before A; whether the operand walked second uses the plane too; how many
 // planes were listed, and how many rows the form had, before it. The form may have `most` rows.
-#[derive(Drop)]
+#[derive(Clone, Copy)]
 pub struct Plan {
     pub pair: Pair,
     pub most: usize,
@@ -33,7 +33,7 @@ pub struct Plan {
 }
 
 // Where the four walks on a plane are: the codes of the operand walked first, in front of the plane and behind it, and of the one walked next.
-#[derive(Drop)]
+#[derive(Clone, Copy)]
 pub struct Codes {
     pub fore: u16,
     pub aft: u16,
@@ -42,14 +42,14 @@ pub struct Codes {
 }
 
 // What stands: how many planes are listed, and how many rows the form has.
-#[derive(Drop)]
+#[derive(Clone, Copy)]
 pub struct Grown {
     pub listed: usize,
     pub rows: usize,
 }
 
 // Where a walk on a plane is: its codes, the polygon of its region, n corners from place `at` of the stack on, and what stands.
-#[derive(Drop)]
+#[derive(Clone, Copy)]
 pub struct Stage {
     pub plan: Plan,
     pub codes: Codes,
@@ -60,7 +60,7 @@ pub struct Stage {
 
 // What a walk comes to: the marks on the two sides are the same; a facet, with four marks; or the row's plane of that number parts the
 // region, with the codes in its two halves.
-#[derive(Drop)]
+#[derive(Clone, Copy)]
 pub enum Next {
     Same,
     Facet(Codes),
@@ -68,7 +68,7 @@ pub enum Next {
 }
 
 // What is grown: the form of an operation of two trees of the forest, of at most so many rows.
-#[derive(Drop)]
+#[derive(Clone, Copy)]
 pub struct Task {
     pub pair: Pair,
     pub most: usize,

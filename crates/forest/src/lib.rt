@@ -10,7 +10,7 @@ pub use beside::mark_beside;
 pub use planting::{moved_up, plant};
 
 // An operation, and the root codes of A and of B.
-#[derive(Drop)]
+#[derive(Clone, Copy)]
 pub struct Pair {
     pub op: u8,
     pub ar: u16,

@@ -21,20 +21,20 @@ pub use write::{put_end, put_four, put_head, put_node, put_plane, put_refusal, p
 // ---- the kinds, and the answers
 
 // A position in a text, at most the text's length.
-#[derive(Drop)]
+#[derive(Clone, Copy)]
 pub struct Cursor {
     pub at: usize,
 }
 
 // The value of a capital hexadecimal digit, or a character that is none.
-#[derive(Drop)]
+#[derive(Clone, Copy)]
 pub enum DigitRead {
     Value(u8),
     Bad,
 }
 
 // A line: the number of its bytes, at least 1; a line refused with 1; or no line, where the text ends.
-#[derive(Drop)]
+#[derive(Clone, Copy)]
 pub enum LineRead {
     Whole(usize),
     Bad,
@@ -42,28 +42,28 @@ pub enum LineRead {
 }
 
 // The cursor after the frame that was due, or the refusal's number.
-#[derive(Drop)]
+#[derive(Clone, Copy)]
 pub enum Got {
     At(Cursor),
     Refused(u8),
 }
 
 // A head's planes, nodes and root code, with the cursor after it; or the refusal's number.
-#[derive(Drop)]
+#[derive(Clone, Copy)]
 pub enum HeadRead {
     Head(usize, usize, u16, Cursor),
     Refused(u8),
 }
 
 // An operation's code, whether known or not, with the cursor after it; or the refusal's number.
-#[derive(Drop)]
+#[derive(Clone, Copy)]
 pub enum OperationRead {
     Operation(u8, Cursor),
     Refused(u8),
 }
 
 // No text after the end, or the refusal's number.
-#[derive(Drop)]
+#[derive(Clone, Copy)]
 pub enum AfterEnd {
     Fine,
     Refused(u8),

@@ -10,7 +10,7 @@ use lines::SolidRead;
 use tables::{Judgement, Solid};
 
 // The operation and the counts of the two solids, whose rows stand in the tables; or the number and the line that refuse the text.
-#[derive(Drop)]
+#[derive(Clone, Copy)]
 pub enum OrderRead {
     Order(u8, Solid, Solid),
     Refused(u8, usize),

@@ -14,7 +14,7 @@ use polygons::row;
 
 // What becomes of a facet on its way: it ends, and so many rows stand; or it has come to a row that parts it: `row` is the row and `place`
 // the place of its plane.
-#[derive(Drop)]
+#[derive(Clone, Copy)]
 pub enum Goes {
     End(usize),
     Parted(Way),

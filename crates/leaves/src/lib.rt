@@ -18,7 +18,7 @@ use tables::Solid;
 // ---- the kinds
 
 // A facet of an operation: the number of its plane, and the operation's marks in front of it and behind it. The form may have `most` rows.
-#[derive(Drop)]
+#[derive(Clone, Copy)]
 pub struct Facet {
     pub pair: Pair,
     pub most: usize,
@@ -30,7 +30,7 @@ pub struct Facet {
 // Where a facet is on its way down the form: at the code in field `side` of row `row`, in the cell of the first `depth` rows of the path,
 // which the listed planes before `place` do not cut; with its polygon, n corners from place `at` of the stack on; and how many rows the form
 // has.
-#[derive(Drop)]
+#[derive(Clone, Copy)]
 pub struct Way {
     pub facet: Facet,
     pub row: usize,
@@ -43,7 +43,7 @@ pub struct Way {
 }
 
 // The first listed plane that cuts a cell, by its place: the facet's own, or another at a point.
-#[derive(Drop)]
+#[derive(Clone, Copy)]
 pub enum First {
     Own(usize),
     At(usize, Meeting),

@@ -11,14 +11,14 @@ pub use writing::put_solid;
 
 // The cursor after the lines that were read, and how many trees the nodes read are, 0 after planes and after the end; or the number and the
 // line that refuse the text.
-#[derive(Drop)]
+#[derive(Clone, Copy)]
 pub enum LinesRead {
     At(Cursor, usize),
     Refused(u8, usize),
 }
 
 // A solid, the cursor after it and the line that follows it; or the number and the line that refuse the text.
-#[derive(Drop)]
+#[derive(Clone, Copy)]
 pub enum SolidRead {
     Read(Solid, Cursor, usize),
     Refused(u8, usize),

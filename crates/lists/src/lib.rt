@@ -10,14 +10,14 @@ use planes::{Order, Plane};
 use tables::{Solid, row};
 
 // How far the lists of A and of B are taken.
-#[derive(Drop)]
+#[derive(Clone, Copy)]
 struct Taken {
     a: usize,
     b: usize,
 }
 
 // How many planes the rows use, or the number of the refusal.
-#[derive(Drop)]
+#[derive(Clone, Copy)]
 pub enum Listed {
     Planes(usize),
     Refused(u8),

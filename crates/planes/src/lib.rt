@@ -21,7 +21,7 @@ pub use signs::{first_sign, sign, times};
 // ---- the kinds, and the answers
 
 // A plane or a half-space (a,b,c,d).
-#[derive(Drop)]
+#[derive(Clone, Copy)]
 pub struct Plane {
     pub a: i64,
     pub b: i64,
@@ -30,7 +30,7 @@ pub struct Plane {
 }
 
 // What may be wrong with a plane, in the order in which it is looked for.
-#[derive(Drop)]
+#[derive(Clone, Copy)]
 pub enum Fault {
     OutOfRange,
     ZeroNormal,
@@ -39,14 +39,14 @@ pub enum Fault {
 }
 
 // A plane, or what is wrong with the four numbers: 4 in every case.
-#[derive(Drop)]
+#[derive(Clone, Copy)]
 pub enum MadePlane {
     Made(Plane),
     Faulty(Fault),
 }
 
 // A point (x,y,z,w), meaning x/w, y/w, z/w.
-#[derive(Drop)]
+#[derive(Clone, Copy)]
 pub struct Point {
     pub x: i64,
     pub y: i64,
@@ -55,7 +55,7 @@ pub struct Point {
 }
 
 // A point, or why the four numbers are refused: 10 in both cases.
-#[derive(Drop)]
+#[derive(Clone, Copy)]
 pub enum MadePoint {
     Made(Point),
     OutOfRange,
@@ -63,7 +63,7 @@ pub enum MadePoint {
 }
 
 // Where three planes meet: w is the determinant of their normals, and may be negative.
-#[derive(Drop)]
+#[derive(Clone, Copy)]
 pub struct Meeting {
     pub x: i64,
     pub y: i64,
@@ -72,7 +72,7 @@ pub struct Meeting {
 }
 
 // A meeting; no one point, where the determinant is zero; or a plane out of range, which is 4.
-#[derive(Drop)]
+#[derive(Clone, Copy)]
 pub enum Met {
     At(Meeting),
     NoPoint,
@@ -80,7 +80,7 @@ pub enum Met {
 }
 
 // Positive is front, zero on, negative back.
-#[derive(Drop)]
+#[derive(Clone, Copy)]
 pub enum Side {
     Front,
     On,
@@ -88,7 +88,7 @@ pub enum Side {
 }
 
 // A side; a plane out of range, which is 4; or a point out of range, which is 10.
-#[derive(Drop)]
+#[derive(Clone, Copy)]
 pub enum Sided {
     Lies(Side),
     BadPlane(Fault),
@@ -96,7 +96,7 @@ pub enum Sided {
 }
 
 // The side of a meeting; no one point; or a plane out of range, which is 4.
-#[derive(Drop)]
+#[derive(Clone, Copy)]
 pub enum MeetSided {
     Lies(Side),
     NoPoint,
@@ -104,7 +104,7 @@ pub enum MeetSided {
 }
 
 // Whether one plane is before, the same as or after another.
-#[derive(Drop)]
+#[derive(Clone, Copy)]
 pub enum Order {
     Before,
     Same,
@@ -112,7 +112,7 @@ pub enum Order {
 }
 
 // Whether two planes are one; or a plane out of range, which is 4.
-#[derive(Drop)]
+#[derive(Clone, Copy)]
 pub enum Coincide {
     Yes,
     No,

@@ -13,7 +13,7 @@ use tables::{Judgement, Solid, judge, row};
 // ---- the answers
 
 // Where a point lies, or the number that refuses the call.
-#[derive(Drop)]
+#[derive(Clone, Copy)]
 pub enum Told {
     In,
     Out,
@@ -22,7 +22,7 @@ pub enum Told {
 }
 
 // A step of the walk: the point lies on the plane met, or the code of the side that it lies on.
-#[derive(Drop)]
+#[derive(Clone, Copy)]
 pub enum Went {
     On,
     To(u16),

@@ -16,7 +16,7 @@ pub use table::{added, copy, index_at, row, write_row};
 // ---- the kinds
 
 // What a bound puts out: nothing, the bound, or the clipping half-space and the bound.
-#[derive(Drop)]
+#[derive(Clone, Copy)]
 pub enum Signal {
     Nothing,
     B,
@@ -24,14 +24,14 @@ pub enum Signal {
 }
 
 // Where the next corner is put out, and the index put out last.
-#[derive(Drop)]
+#[derive(Clone, Copy)]
 pub struct Place {
     pub at: usize,
     pub prev: usize,
 }
 
 // The line of two planes: the 2x2 minors of their numbers.
-#[derive(Drop)]
+#[derive(Clone, Copy)]
 pub struct Line {
     pub ab: i64,
     pub ac: i64,
@@ -42,7 +42,7 @@ pub struct Line {
 }
 
 // What a clip leaves: the polygon as it was, a polygon of so many corners in the second table, or nothing.
-#[derive(Drop)]
+#[derive(Clone, Copy)]
 pub enum Clipped {
     Same,
     Cut(usize),

@@ -11,7 +11,7 @@ use tables::{Judgement, Solid};
 use walks::Walked;
 
 // A solid's counts and root code, or the number of the refusal.
-#[derive(Drop)]
+#[derive(Clone, Copy)]
 pub enum Given {
     Solid(Solid),
     Refused(u8),

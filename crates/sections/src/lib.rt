@@ -19,7 +19,7 @@ use polygons::{clip_on, index_at, opened, row, write_row};
 // ---- the kinds, and the answers
 
 // How many bounds the section has; Nothing; or the number of the refusal.
-#[derive(Drop)]
+#[derive(Clone, Copy)]
 pub enum Sectioned {
     Polygon(usize),
     Nothing,
@@ -27,7 +27,7 @@ pub enum Sectioned {
 }
 
 // Whether planes are in range with normals that are not zero.
-#[derive(Drop)]
+#[derive(Clone, Copy)]
 pub enum Lawful {
     Yes,
     No,

@@ -9,7 +9,7 @@ use planes::Plane;
 use sections::Sectioned;
 
 // How far the half-spaces reach, and how many they are.
-#[derive(Drop)]
+#[derive(Clone, Copy)]
 struct Halves {
     at: usize,
     count: usize,

@@ -14,7 +14,7 @@ use tables::{Judgement, Solid};
 // ---- the answers
 
 // How many characters were written, or the number of the refusal.
-#[derive(Drop)]
+#[derive(Clone, Copy)]
 pub enum Written {
     Text(usize),
     Refused(u8),

@@ -17,14 +17,14 @@ use walks::{IN_A, Turn, Walked, emit};
 // ---- the kinds, and the answers
 
 // What a cell is: all its points off the planes have one mark, or they have both.
-#[derive(Drop)]
+#[derive(Clone, Copy)]
 pub enum Kind {
     Uniform(u16),
     Mixed,
 }
 
 // The first listed plane that cuts a cell: its place in the list, and a point that shows it.
-#[derive(Drop)]
+#[derive(Clone, Copy)]
 pub enum First {
     At(usize, Meeting),
     Nothing,

@@ -17,7 +17,7 @@ use planes::{MadePlane, Order, Plane};
 // ---- the kinds, and the answers
 
 // The counts of a solid's tables, and its root code.
-#[derive(Drop)]
+#[derive(Clone, Copy)]
 pub struct Solid {
     pub planes: usize,
     pub nodes: usize,
@@ -37,35 +37,35 @@ impl Solid {
 }
 
 // A row, or the number that refuses it.
-#[derive(Drop)]
+#[derive(Clone, Copy)]
 pub enum Judged {
     Fine,
     Refused(u8),
 }
 
 // A solid, or the number and the line that refuse it.
-#[derive(Drop)]
+#[derive(Clone, Copy)]
 pub enum Judgement {
     Sound(Solid),
     Refused(u8, usize),
 }
 
 // A child: how many rows it has, and how many trees stand below it.
-#[derive(Drop)]
+#[derive(Clone, Copy)]
 pub enum Taken {
     Child(usize, usize),
     Against,
 }
 
 // How many trees stand after a row, or the number that refuses it.
-#[derive(Drop)]
+#[derive(Clone, Copy)]
 pub enum Pushed {
     Depth(usize),
     Refused(u8),
 }
 
 // How many trees stand after all rows, or the number and the line of the first that is refused.
-#[derive(Drop)]
+#[derive(Clone, Copy)]
 pub enum Stood {
     Depth(usize),
     Refused(u8, usize),

@@ -22,21 +22,21 @@ use tables::Solid;
 // ---- the kinds, and the answers
 
 // What a walk gives: the code of its tree, and how many rows stand; or the number of the refusal.
-#[derive(Drop)]
+#[derive(Clone, Copy)]
 pub enum Walked {
     Done(u16, usize),
     Refused(u8),
 }
 
 // What becomes of a mark that a walk meets: the mark of the result, or B is to be walked in this cell.
-#[derive(Drop)]
+#[derive(Clone, Copy)]
 pub enum Ended {
     Mark(u16),
     WalkB,
 }
 
 // Where a walk is: the operation, B's root code, and the mark of the leaf of A above it, or 0 in A.
-#[derive(Drop)]
+#[derive(Clone, Copy)]
 pub struct Turn {
     pub op: u8,
     pub root: u16,
@@ -44,7 +44,7 @@ pub struct Turn {
 }
 
 // How a row's plane lies to a cell: it cuts it at a point, or it misses it and the walk goes on at the code of the cell's side.
-#[derive(Drop)]
+#[derive(Clone, Copy)]
 pub enum Reached {
     Cut(Meeting),
     Code(u16),

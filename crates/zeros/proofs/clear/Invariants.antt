@@ -1,0 +1,16 @@
+use borrow.Author.Rules.{rules}
+use mathlib.Core.Path.{◌≡◌}
+use mathlib.Core.List.{◌++◌}
+use Prim.Native.Nat.{◌-◌, ◌≤◌}
+use native.Mathlib.Omega.{arith}
+use lib.ListN.{length, length-set, drop, replicate}
+use lib.IntN.{pos}
+use Rattle.zeros.proofs.Fill.{fill_more, fill_all}
+use Rattle.zeros.proofs.clear.Given as goal
+
+abbrev pub invariant-loop-i : goal.invariant-loop-i
+invariant-loop-i l =
+    (l.i ≤ length l.initial.t) × (l.i-end ≡ length l.initial.t) × (length l.t ≡ length l.initial.t) × (l.t ≡ replicate l.i (pos 0) ++ drop l.i l.initial.t)
+
+abbrev pub decreases-loop-i : goal.decreases-loop-i
+decreases-loop-i l = length l.initial.t - l.i
