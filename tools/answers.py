@@ -15,7 +15,7 @@ import re
 import sys
 
 PATH = re.compile(r"(?<![\w.'₀-₉-])([A-Za-z_][\w']*)((?:\.[A-Za-z0-9_'+-]+)+)")
-START = {"args", "requires", "ranges", "well_formed", "utf8"}
+START = {"args", "requires", "ranges", "well_formed", "well-formed", "utf8"}
 said = []
 lemmas = {}  # a local lemma and the place that it speaks of
 
@@ -73,20 +73,22 @@ class Fn:
             return [rest[0], params[k]] + rest[j:]
         return rest
 
-    def step(self, place, rest):
-        """the new path of a step and its fields, seen from a place, or None"""
+    def step(self, place, rest, view=True):
+        """the new path of a step and its fields, seen from a place, or None; without the view of a goal an arm's two steps stand apart"""
         f = norm(rest[0])
-        for i in self.chain(place):
+        for i in self.chain(place) if view else []:
             arm = self.e["arms"][i]
             if not arm:
                 continue
-            for field, old, fields in arm[2]:
-                if norm(old) == f and rest[1:1 + len(fields)] == fields and fields:
+            for field, old, fields in sorted(arm[2], key=lambda x: -len(x[2])):
+                if norm(old) == f and rest[1:1 + len(fields)] == fields and (fields or rest[1:]):
                     return [arm[0], field] + rest[1 + len(fields):]
         for i in self.chain(place):
             p = self.places[i]
             if norm(p[2][0]) == f:
                 fields = rest[1:]
+                if not view and self.e["arms"][i] and self.e["arms"][i][1] == 1:
+                    return [p[2][1] + "-1"] + fields
                 if fields:
                     for o, n in p[4] or []:
                         if fields[0] == o:
@@ -138,10 +140,10 @@ def translate(fn, text, env, view=False):
             return m.group(0)
         v = env[root]
         if v[0] == "step":
-            r = fn.step(v[1], [v[2]] + fields)
+            r = fn.step(v[1], [v[2]] + fields, view)
             if r is None:
                 return m.group(0)
-            plain = fn.step(v[1], [v[2]])
+            plain = fn.step(v[1], [v[2]], view)
             if plain and r[0] == plain[0]:
                 return root + "." + ".".join(r[1:]) if len(r) > 1 else root
             return "c." + ".".join(r)
@@ -153,11 +155,11 @@ def translate(fn, text, env, view=False):
         if not rest:
             return m.group(0)
         if rest[0] in START:
-            return name + "." + ".".join(rest)
+            return name + "." + ".".join([rest[0].replace("-", "_")] + rest[1:])
         at = fn.up(v[1], k)
-        r = fn.step(at, rest) if at is not None else None
+        r = fn.step(at, rest, view) if at is not None else None
         if r is None:
-            r = fn.step(v[1], rest)
+            r = fn.step(v[1], rest, view)
         if r is None:
             said.append(f"step {m.group(0)}")
             return name + "." + ".".join(rest)
