@@ -82,6 +82,7 @@ bad_lines c t (cons {c = d} k r) e h = rw (eq_false d 10 k) (bad_put d (bad_line
 
 bad_first : (ls : List Line) → BadLine ls → BadFirst (each ls)
 unfolding content
+bad_first [] h = elim h [ ]
 bad_first (whole [] ∷ ls) h = record { rest = each ls; is = refl }
 bad_first (whole (c ∷ l) ∷ ls) (unread h) = record { rest = each ls; is = ap (λ o. frame_or o ∷ each ls) (pairs_no_digit h) }
 bad_first (torn l ∷ ls) h = record { rest = each ls; is = refl }
