@@ -1,5 +1,4 @@
 -- `frames::after_end` meets its contract. Assumes nothing.
-use borrow.Author.Rules.{rules}
 use mathlib.Core.Path.{subst}
 use Rattle.frames.specs.Promises.{LineTold, bad_follows, more_follows}
 use Rattle.frames.proofs.after_end.Goals as goal

@@ -1,5 +1,4 @@
 -- `frames::operation_at` meets its contract. Assumes nothing.
-use borrow.Author.Rules.{rules}
 use native.Mathlib.Omega.{arith}
 use mathlib.Core.Path.{subst}
 use Rattle.frames.specs.Bytes.{operation_shape}

@@ -1,5 +1,4 @@
 -- `frames::characters::digit` meets its contract. Assumes nothing.
-use borrow.Author.Rules.{rules}
 use native.Mathlib.Omega.{arith}
 use Rattle.whole.specs.Tests.{lt_true, lt_false}
 use Rattle.scope.specs.Text.{digit}

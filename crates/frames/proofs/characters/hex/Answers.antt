@@ -1,5 +1,4 @@
 -- `frames::characters::hex` meets its contract. Assumes nothing.
-use borrow.Author.Rules.{rules}
 use Rattle.whole.specs.Tests.{lt_true, lt_false}
 use Rattle.scope.specs.Text.{hex}
 use Rattle.frames.proofs.characters.hex.Goals as goal

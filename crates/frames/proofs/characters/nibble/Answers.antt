@@ -1,5 +1,4 @@
 -- `frames::characters::nibble` meets its contract. Assumes nothing.
-use borrow.Author.Rules.{rules}
 use Rattle.frames.proofs.Digits.{digit_none, digit_some, nibble_none, nibble_some}
 use Rattle.frames.proofs.characters.nibble.Goals as goal
 

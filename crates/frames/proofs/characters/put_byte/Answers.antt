@@ -1,5 +1,4 @@
 -- `frames::characters::put_byte` meets its contract. Assumes nothing.
-use borrow.Author.Rules.{rules}
 use native.Mathlib.Omega.{arith}
 use lib.ListN.{length-set}
 use Rattle.frames.proofs.Writing.{put_first}

@@ -1,5 +1,4 @@
 -- `frames::characters::put_two` meets its contract. Assumes nothing.
-use borrow.Author.Rules.{rules}
 use mathlib.Core.List.{[]}
 use Rattle.scope.specs.Text.{word_bytes}
 use Rattle.frames.proofs.Writing.{put_more}

@@ -1,5 +1,4 @@
 -- `frames::characters::put_word` meets its contract. Assumes nothing.
-use borrow.Author.Rules.{rules}
 use mathlib.Core.List.{[], ◌∷◌}
 use Prim.Native.Nat.{◌/◌, ◌%◌}
 use Rattle.scope.specs.Text.{high, low}

@@ -1,5 +1,4 @@
 -- `frames::characters::word` meets its contract. Assumes nothing.
-use borrow.Author.Rules.{rules}
 use Prim.Native.Nat.{◌+◌, ◌*◌}
 use Rattle.scope.specs.Text.{word}
 use Rattle.frames.proofs.characters.word.Goals as goal

@@ -1,10 +1,8 @@
 -- `frames::line::line_at` meets its contract. The invariant: the characters from `at` up to i are digits. The measure: the characters left. Assumes nothing.
-use borrow.Author.Rules.{rules}
 use native.Mathlib.Omega.{arith}
-use Prim.Native.Nat.{◌-◌, ◌/◌, ◌≤◌}
-use lib.ListN.{length}
+use Prim.Native.Nat.{◌-◌, ◌/◌}
 use Rattle.frames.proofs.Digits.{digit_none, digit_some, digit_is}
-use Rattle.frames.proofs.Lines.{Digits, digits_more, line_empty, line_odd, line_whole, line_unread, line_torn, line_missing}
+use Rattle.frames.proofs.Lines.{digits_more, line_empty, line_odd, line_whole, line_unread, line_torn, line_missing}
 use Rattle.frames.proofs.line.line_at.Goals as goal
 
 pub loop-i-init : goal.loop-i-init

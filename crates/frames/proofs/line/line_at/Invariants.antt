@@ -1,9 +1,6 @@
-use borrow.Author.Rules.{rules}
-use native.Mathlib.Omega.{arith}
-use Prim.Native.Nat.{◌-◌, ◌/◌, ◌≤◌}
+use Prim.Native.Nat.{◌-◌, ◌≤◌}
 use lib.ListN.{length}
-use Rattle.frames.proofs.Digits.{digit_none, digit_some, digit_is}
-use Rattle.frames.proofs.Lines.{Digits, digits_more, line_empty, line_odd, line_whole, line_unread, line_torn, line_missing}
+use Rattle.frames.proofs.Lines.{Digits}
 use Rattle.frames.proofs.line.line_at.Given as goal
 
 abbrev pub invariant-loop-i : goal.invariant-loop-i

@@ -1,5 +1,4 @@
 -- `frames::number::signed` meets its contract. Assumes nothing.
-use borrow.Author.Rules.{rules}
 use native.Mathlib.Omega.{arith}
 use Rattle.frames.proofs.Numbers.{signed_low, turned_fits, signed_high}
 use Rattle.frames.proofs.number.signed.Goals as goal

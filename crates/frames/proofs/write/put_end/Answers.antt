@@ -1,5 +1,4 @@
 -- `frames::write::put_end` meets its contract. Assumes nothing.
-use borrow.Author.Rules.{rules}
 use mathlib.Core.Path.{refl}
 use mathlib.Core.List.{[], ◌∷◌}
 use Rattle.scope.specs.Text.{bytes}

@@ -1,5 +1,4 @@
 -- `frames::write::put_four` meets its contract. Assumes nothing.
-use borrow.Author.Rules.{rules}
 use mathlib.Core.List.{[]}
 use Prim.Native.Nat.{◌/◌, ◌%◌}
 use Rattle.scope.specs.Text.{word_bytes, high_word, low_word}

@@ -1,5 +1,4 @@
 -- `frames::write::put_node` meets its contract. Assumes nothing.
-use borrow.Author.Rules.{rules}
 use native.Mathlib.Omega.{arith}
 use Rattle.scope.specs.Text.{bytes}
 use Rattle.frames.proofs.Writing.{node_fits}

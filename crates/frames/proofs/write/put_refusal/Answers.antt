@@ -1,10 +1,9 @@
 -- `frames::write::put_refusal` meets its contract. Assumes nothing.
-use borrow.Author.Rules.{rules}
 use mathlib.Core.Path.{◌≡◌, refl}
 use mathlib.Core.List.{[], ◌∷◌}
 use lib.Seq.{sets}
 use Rattle.scope.specs.Text.{hexes, refusal_line}
-use Rattle.frames.proofs.Writing.{put_more, put_line, put_length}
+use Rattle.frames.proofs.Writing.{put_more, put_line}
 use Rattle.frames.proofs.write.put_refusal.Lts as lts
 use Rattle.frames.proofs.write.put_refusal.Tie as tie
 use Rattle.frames.proofs.write.put_refusal.Reads as reads

@@ -1,11 +1,10 @@
 -- `frames::write::put_six` meets its contract. Assumes nothing.
-use borrow.Author.Rules.{rules}
 use mathlib.Core.Path.{◌≡◌, refl}
 use mathlib.Core.List.{List, [], ◌∷◌}
 use Prim.Native.Nat.{ℕ}
 use lib.Seq.{sets}
 use Rattle.scope.specs.Text.{hexes, word_bytes}
-use Rattle.frames.proofs.Writing.{put_more, put_line, put_length}
+use Rattle.frames.proofs.Writing.{put_more, put_line}
 use Rattle.frames.proofs.write.put_six.Lts as lts
 use Rattle.frames.proofs.write.put_six.Tie as tie
 use Rattle.frames.proofs.write.put_six.Reads as reads
