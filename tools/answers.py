@@ -25,6 +25,33 @@ def norm(s):
     return re.sub(r"(?<=[a-z])-(\d+)$", r"\1", s)
 
 
+def clauses():
+    """function -> the names of its ensures, in order, where they have names"""
+    import glob
+    out = {}
+    for path in glob.glob("crates/*/src/**/*.rt", recursive=True):
+        crate = path.split("/")[1]
+        stem = path.split("/src/")[1][:-3]
+        mods = [] if stem in ("lib", "main") else stem.split("/")
+        fn, typ = None, None
+        for line in open(path, encoding="utf-8"):
+            m = re.match(r"impl (\w+)", line)
+            if m:
+                typ = m.group(1)
+            if re.match(r"}", line):
+                typ = None
+            m = re.match(r"\s*(?:pub )?(?:extern \"C\" )?fn (\w+)", line)
+            if m:
+                fn = "::".join([crate] + mods + ([typ] if typ else []) + [m.group(1)])
+            m = re.match(r"\s*ensures (\w+) {", line)
+            if m and fn:
+                out.setdefault(fn, []).append(m.group(1))
+    return out
+
+
+NAMED = {}
+
+
 class Fn:
     def __init__(self, entry):
         self.e = entry
@@ -95,6 +122,8 @@ class Fn:
                             fields = [n] + fields[1:]
                             break
                     fields = [{"type-inv": "type_inv"}.get(fields[0], fields[0])] + fields[1:]
+                    if fields[0] == "ensures" and len(fields) > 1 and fields[1].isdigit() and p[3] in NAMED and int(fields[1]) < len(NAMED[p[3]]):
+                        fields = ["ensures", NAMED[p[3]][int(fields[1])]] + fields[2:]
                     if fields[0] in ("auto", "new") and p[3]:
                         fields = self.positional(p[3], fields)
                 return [p[2][1]] + fields
@@ -348,6 +377,7 @@ def convert(crate, rel, text, fn, root):
 def main():
     crate, old, names = sys.argv[1:4]
     data = json.load(open(names))
+    NAMED.update(clauses())
     base = os.path.join(old, "crates", crate, "proofs")
     for folder, _, fs in sorted(os.walk(base)):
         if "Proof.antt" not in fs:

@@ -3,21 +3,20 @@
 --     line_whole, line_empty, line_odd           up to LF: an even number of digits, none, an odd number
 --     line_unread, line_torn, line_missing       a character that is no digit, a rest without LF, no text
 use mathlib.Core.Path.{◌≡◌, refl, sym, ap, subst, ◌∙◌}
-use mathlib.Core.Bool.{false}
 use mathlib.Core.List.{List, [], ◌∷◌, ◌++◌, append-nil}
 use mathlib.Core.Logic.{◌≢◌, ◌⊎◌, ⊎_elim}
 use mathlib.Core.Option.{Option, none, some}
-use Prim.Native.Nat.{ℕ, zero, suc, ◌+◌, ◌-◌, ◌*◌, ◌/◌, ◌%◌, ◌≤◌, ◌<◌}
+use Prim.Native.Nat.{ℕ, zero, suc, ◌+◌, ◌-◌, ◌*◌, ◌%◌, ◌≤◌, ◌<◌}
 use native.Mathlib.Nat.{add-zero, eq-or-lt_of_le}
 use native.Mathlib.Omega.{arith}
 use lib.ListN.{length, get_or, drop, drop_of_length-le}
 use lib.Seq.{drop-cons}
 use Rattle.whole.specs.Tests.{differ, eq_false}
-use Rattle.scope.specs.Text.{digit, pair, pairs, Line, whole, torn, put, lines, content, Frame, bad, frame, frame_or, each, frames}
+use Rattle.scope.specs.Text.{digit, pair, pairs, Line, whole, torn, put, lines, content, frame, frame_or, each, frames}
 use Rattle.theory.specs.Text.Lines.{NoLF, nil, cons, lines_whole, lines_torn, malformed_content}
 use Rattle.theory.specs.Text.Frames.{bad_malformed}
 use Rattle.frames.specs.Bytes.{nibble_of, byte_of, bytes_of}
-use Rattle.frames.specs.Promises.{Reads, BadFirst, WholeLine}
+use Rattle.frames.specs.Promises.{BadFirst, WholeLine}
 use Rattle.frames.proofs.Digits.{digit_not_lf}
 
 -- ---- content
@@ -82,6 +81,7 @@ bad_lines c t (cons {c = d} k r) e h = rw (eq_false d 10 k) (bad_put d (bad_line
 
 bad_first : (ls : List Line) → BadLine ls → BadFirst (each ls)
 unfolding content
+bad_first [] h = elim h [ ]
 bad_first (whole [] ∷ ls) h = record { rest = each ls; is = refl }
 bad_first (whole (c ∷ l) ∷ ls) (unread h) = record { rest = each ls; is = ap (λ o. frame_or o ∷ each ls) (pairs_no_digit h) }
 bad_first (torn l ∷ ls) h = record { rest = each ls; is = refl }

@@ -1,17 +1,16 @@
 -- The kind of a frame is its first byte, and tells how many bytes it has.
 --     kind_shape     a frame of a kind has that kind's first byte and number of bytes
-use mathlib.Core.Path.{◌≡◌, refl, sym, ap, subst, ◌∙◌}
+use mathlib.Core.Path.{◌≡◌, refl, sym, ap, ◌∙◌}
 use mathlib.Core.Bool.{Bool, true, false, cond}
 use mathlib.Core.List.{List, [], ◌∷◌}
 use mathlib.Core.Logic.{◌≢◌}
-use Prim.Native.Nat.{ℕ, zero, suc}
+use Prim.Native.Nat.{ℕ, suc}
 use native.Mathlib.Omega.{arith}
 use lib.Dec.{T, eqb, eqb→eq}
 use lib.ListN.{length, get_or}
-use Rattle.whole.specs.Tests.{differ}
 use Rattle.scope.specs.Solids.{entry}
 use Rattle.scope.specs.Text.{word, Frame, other, operation, head, plane, node_row, end, plane_of, frame}
-use Rattle.frames.specs.Bytes.{byte_of, bytes_of, Shape, head_shape, plane_shape, node_shape, end_shape, operation_shape, kind}
+use Rattle.frames.specs.Bytes.{Shape, head_shape, plane_shape, node_shape, end_shape, operation_shape, kind}
 
 data Kinded : List ℕ → ℕ → Type 0 where
   no_frame : {bs : List ℕ} → Kinded bs 0

@@ -11,10 +11,8 @@ use native.Mathlib.Omega.{arith}
 use lib.IntN.{ℤ}
 use lib.ListN.{length, get_or, drop}
 use lib.Seq.{sets}
-use Rattle.scope.specs.Planes.{Plane}
-use Rattle.scope.specs.Solids.{entry}
-use Rattle.scope.specs.Text.{Frame, operation, head, plane, node_row, end, plane_of, frame, frames}
-use Rattle.frames.specs.Bytes.{byte_of, bytes_of, word_of, axis_of, far_of, Shape, kind}
+use Rattle.scope.specs.Text.{Frame, operation, head, end, plane_of, frame, frames}
+use Rattle.frames.specs.Bytes.{byte_of, bytes_of, word_of, axis_of, far_of, Shape}
 use Rattle.frames.specs.Promises.{Refuses, not_due, IsHead, is_head, IsPlane, is_plane, IsNode, is_node, IsEnd, is_end, IsOperation, is_operation, Reads, PlaneRead, NodeRead, WholeLine, OfKind, DueTold, EndTold, PlaneTold, NodeTold}
 use Rattle.frames.specs.Follows.{refuses_of}
 use Rattle.frames.specs.declared.Got as Got

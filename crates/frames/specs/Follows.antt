@@ -14,7 +14,7 @@ use Rattle.whole.specs.Tests.{differ}
 use Rattle.scope.specs.Planes.{Plane}
 use Rattle.scope.specs.Solids.{Entry, Tables}
 use Rattle.scope.specs.Text.{Frame, bad, other, operation, head, plane, node_row, end}
-use Rattle.scope.specs.Judging.{Sub, Rooms, State, fresh, busy, Step, stop, step, Reading, next, read, refused, read_solid, Verdict, accepted, refusal, finish, MergeInput, order_refused, opening}
+use Rattle.scope.specs.Judging.{Sub, Rooms, State, fresh, busy, stop, step, next, read, refused, read_solid, accepted, refusal, finish, order_refused, opening}
 use Rattle.theory.specs.Text.Rules as Rules
 use Rattle.frames.specs.Promises.{Refuses, missing, malformed, not_due, Follows, bad_follows, more_follows, IsHead, is_head, IsPlane, is_plane, IsNode, is_node, IsEnd, is_end, IsOperation, is_operation}
 

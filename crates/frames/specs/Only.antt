@@ -1,8 +1,8 @@
 -- No second answer fits a promise: two answers of the same call are equal, and so are the tables and texts that they leave. Document 01, "What the promises say".
-use Rattle.std.specs.Prelude.{◌≡◌, refl, List, [], ◌∷◌, ℕ, ◌+◌, ℤ, drop}
+use Rattle.std.specs.Prelude.{◌≡◌, refl, List, [], ◌∷◌, ℕ, ℤ, drop}
 use Rattle.std.proofs.Common.{sym, ap, ◌∙◌}
 use Rattle.whole.specs.Tests.{differ}
-use Rattle.scope.specs.Text.{Frame, bad, operation, head, plane, node_row, end, frames}
+use Rattle.scope.specs.Text.{Frame, bad, frames}
 use Rattle.frames.specs.Promises.{Refuses, missing, malformed, not_due, Follows, bad_follows, more_follows, IsHead, is_head, IsPlane, is_plane, IsNode, is_node, IsEnd, is_end, IsOperation, is_operation, Reads, HeadTold, OperationTold, EndTold, PlaneTold, NodeTold, AfterTold, Wrote}
 use Rattle.frames.specs.declared.Cursor.{Cursor}
 use Rattle.frames.specs.declared.Got as Got

@@ -11,7 +11,7 @@ use Rattle.std.proofs.lemmas.List.Edits.{sets}
 use Rattle.scope.specs.Planes.{Plane}
 use Rattle.scope.specs.Solids.{Entry, entry}
 use Rattle.scope.specs.Text.{Frame, bad, operation, head, plane, node_row, end, frame, frames, word_bytes, high_word, low_word}
-use Rattle.frames.specs.Bytes.{byte_of, bytes_of, word_of, axis_of, far_of, kind}
+use Rattle.frames.specs.Bytes.{bytes_of, kind}
 use Rattle.frames.specs.declared.LineRead as LineRead
 use Rattle.frames.specs.declared.Got as Got
 use Rattle.frames.specs.declared.HeadRead as HeadRead

@@ -10,7 +10,7 @@ use borrow.Author.Tests.{le-leb}
 use Rattle.whole.specs.Tests.{differ, and_true}
 use Rattle.whole.specs.Sign.{Sign, minus, nought, plus}
 use Rattle.scope.specs.Limits.{most_halves, stated}
-use Rattle.scope.specs.Planes.{Plane, at, in_range, lead, half_fault, half_faults}
+use Rattle.scope.specs.Planes.{Plane, in_range, lead, half_fault, half_faults}
 use Rattle.scope.specs.Cells.{box, Cuts}
 use Rattle.scope.specs.Section.{section}
 use Rattle.scope.specs.Answers.{given, refused, no_fault, no_faults, quads, section_answer, section_by, bounds_by}
