@@ -1,8 +1,7 @@
 -- `tables::all_used` meets its contract. The invariant: each plane below k is marked. The measure is what is left of n. Assumes nothing.
 use borrow.Author.Rules.{rules}
 use mathlib.Core.Path.{◌≡◌, refl, sym, ap, ◌∙◌}
-use mathlib.Core.Bool.{true}
-use Prim.Native.Nat.{◌+◌, ◌-◌, ◌≤◌}
+use Prim.Native.Nat.{◌+◌}
 use native.Mathlib.Omega.{arith}
 use lib.IntN.{pos}
 use lib.ListN.{get_or}
@@ -20,7 +19,7 @@ loop-k-init c = (search rules, refl)
 pub returns-then-work-k-eq0 : goal.returns-then-work-k-eq0
 returns-then-work-k-eq0 c =
     let l = c.loop-k in
-    marks_fail c.args.work.now c.args.n l.k c.loop-k-test.true (bits_zero (get_or c.args.work.now (1000 + l.k) (pos 0)) (record { sfits = c.t8-1.given }) c.if-work-k-eq0.true)
+    marks_fail c.args.work.now c.args.n l.k c.loop-k-test.true (bits_zero (get_or c.args.work.now (1000 + l.k) (pos 0)) (search rules) c.if-work-k-eq0.true)
 
 pub loop-k-preserved : goal.loop-k-preserved
 loop-k-preserved c =

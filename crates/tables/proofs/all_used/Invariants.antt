@@ -1,15 +1,7 @@
-use borrow.Author.Rules.{rules}
-use mathlib.Core.Path.{◌≡◌, refl, sym, ap, ◌∙◌}
+use mathlib.Core.Path.{◌≡◌}
 use mathlib.Core.Bool.{true}
-use Prim.Native.Nat.{◌+◌, ◌-◌, ◌≤◌}
-use native.Mathlib.Omega.{arith}
-use lib.IntN.{pos}
-use lib.ListN.{get_or}
-use mir.Syntax.{w64}
-use mir.Val.{of_z}
-use Rattle.planes.proofs.Laws.{bits_zero}
+use Prim.Native.Nat.{◌-◌, ◌≤◌}
 use Rattle.tables.specs.Work.{all_marked}
-use Rattle.tables.proofs.Stacks.{marks_more, marks_fail}
 use Rattle.tables.proofs.all_used.Given as goal
 
 abbrev pub invariant-loop-k : goal.invariant-loop-k

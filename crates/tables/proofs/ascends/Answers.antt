@@ -4,7 +4,6 @@ use Rattle.scope.specs.Judging.{follows}
 use Rattle.planes.specs.Values.{plane}
 use Rattle.tables.specs.Rows.{last_before}
 use Rattle.tables.proofs.Sides.{is_before, row_follows}
-use borrow.Author.Rules.{rules}
 use Rattle.tables.proofs.ascends.Lts as lts
 use Rattle.tables.proofs.ascends.Tie as tie
 use Rattle.tables.proofs.ascends.Reads as reads

@@ -5,7 +5,6 @@ use Prim.Native.Nat.{◌+◌, ◌%◌}
 use lib.ListN.{length}
 use Rattle.tables.specs.Promises.{sound_or}
 use Rattle.tables.proofs.Turn.{refused_sound}
-use borrow.Author.Rules.{rules}
 use Rattle.tables.proofs.judge_close.Goals as goal
 
 pub returns-then-nodes-ne0 : goal.returns-then-nodes-ne0

@@ -2,7 +2,6 @@
 use mathlib.Core.Path.{sym, ap, ◌∙◌}
 use Rattle.tables.specs.Promises.{sound_or, counts}
 use Rattle.tables.proofs.Turn.{refused_sound}
-use borrow.Author.Rules.{rules}
 use Rattle.tables.proofs.judge_counts.Goals as goal
 
 pub returns-in_default : goal.returns-in_default

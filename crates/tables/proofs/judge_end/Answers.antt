@@ -1,9 +1,8 @@
 -- `tables::judge_end` meets its contract. Assumes nothing.
 use mathlib.Core.Path.{◌≡◌, refl, sym, ◌∙◌}
 use mathlib.Core.Bool.{true, false}
-use borrow.Author.Tests.{not-true, not-false, le-leb, lt-leb}
+use borrow.Author.Tests.{le-leb, lt-leb}
 use Rattle.tables.specs.Work.{all_marked}
-use borrow.Author.Rules.{rules}
 use Rattle.tables.proofs.judge_end.Lts as lts
 use Rattle.tables.proofs.judge_end.Tie as tie
 use Rattle.tables.proofs.judge_end.Reads as reads

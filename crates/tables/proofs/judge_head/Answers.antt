@@ -1,13 +1,11 @@
 -- `tables::judge_head` meets its contract: 3, then 6, then 8, by the three tests in that order. Assumes nothing.
 use mathlib.Core.Path.{◌≡◌, sym, ◌∙◌}
 use mathlib.Core.Bool.{true}
-use borrow.Author.Tests.{not-true, not-false}
 use lib.Dec.{leb}
 use Rattle.whole.specs.Tests.{◌and◌}
 use Rattle.scope.specs.Limits.{most_planes, most_nodes}
 use Rattle.scope.specs.Judging.{Rooms, root_ok}
 use Rattle.tables.proofs.Heads.{head_over, head_root, head_room, head_fine}
-use borrow.Author.Rules.{rules}
 use Rattle.tables.proofs.judge_head.Lts as lts
 use Rattle.tables.proofs.judge_head.Tie as tie
 use Rattle.tables.proofs.judge_head.Reads as reads

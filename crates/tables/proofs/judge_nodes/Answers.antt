@@ -1,15 +1,9 @@
 -- `tables::judge_nodes` meets its contract. The invariant: i rows stand, with at most i trees and at most i rows in them. The measure is what is left of m. Assumes nothing.
-use borrow.Author.Rules.{rules}
 use mathlib.Core.Path.{◌≡◌, refl, subst, ◌∙◌}
-use Prim.Native.Nat.{◌-◌, ◌≤◌}
 use native.Mathlib.Omega.{arith}
-use lib.ListN.{length}
 use Rattle.tables.specs.Work.{stack, total}
-use Rattle.tables.specs.Promises.{Stands, Standing, Pushes}
+use Rattle.tables.specs.Promises.{Standing, Pushes}
 use Rattle.tables.proofs.Turn.{none_standing, row_standing}
-use Rattle.tables.proofs.judge_nodes.Lts as lts
-use Rattle.tables.proofs.judge_nodes.Tie as tie
-use Rattle.tables.proofs.judge_nodes.Reads as reads
 use Rattle.tables.proofs.judge_nodes.Goals as goal
 
 pub loop-i-init : goal.loop-i-init
@@ -36,19 +30,12 @@ returns-in_default c =
     let f = subst (Pushes c.args.nodes.now c.args.s.planes l.i l.work l.depth n.new.work) c.in_default.is n.ensures in
     record { row = l.i; inside = c.loop-i-test.true; line = refl; number = refl; sizes = stack l.work l.depth; earlier = l.invariant.4.rows; here = f.row }
 
--- the row stands
-stood : (c : lts.After-d tie.the-claims reads.Pre reads.Post) → let l = c.loop-i in Stands c.args.nodes.now c.args.s.planes l.i l.work l.depth c.judge_node.new.work c.d-1.given.0.0
-stood c =
-    let l = c.loop-i in
-    let n = c.judge_node in
-    subst (Pushes c.args.nodes.now c.args.s.planes l.i l.work l.depth n.new.work) c.d-1.given.1 n.ensures
-
 pub loop-i-preserved : goal.loop-i-preserved
 loop-i-preserved c =
     let l = c.loop-i in
     let t = c.loop-i-test.true in
     let n = c.judge_node in
-    let r = stood c in
+    let r = subst (Pushes c.args.nodes.now c.args.s.planes l.i l.work l.depth n.new.work) c.in-Depth.is n.ensures in
     (omega (arith, t), n.auto.work ∙ l.invariant.1, r.deep, r.sizes, row_standing l.invariant.4 r)
 
 pub returns : goal.returns

@@ -1,11 +1,8 @@
-use borrow.Author.Rules.{rules}
-use mathlib.Core.Path.{◌≡◌, refl, subst, ◌∙◌}
+use mathlib.Core.Path.{◌≡◌}
 use Prim.Native.Nat.{◌-◌, ◌≤◌}
-use native.Mathlib.Omega.{arith}
 use lib.ListN.{length}
 use Rattle.tables.specs.Work.{stack, total}
-use Rattle.tables.specs.Promises.{Stands, Standing, Pushes}
-use Rattle.tables.proofs.Turn.{none_standing, row_standing}
+use Rattle.tables.specs.Promises.{Standing}
 use Rattle.tables.proofs.judge_nodes.Given as goal
 
 abbrev pub invariant-loop-i : goal.invariant-loop-i

@@ -1,11 +1,10 @@
 -- `tables::judge_planes` meets its contract. The invariant: each row below i is fine. The measure is what is left of n. Assumes nothing.
 use borrow.Author.Rules.{rules}
 use borrow.Author.Count.{below_none, below_more}
-use mathlib.Core.Path.{◌≡◌, refl, sym, ap, subst, ◌∙◌}
-use Prim.Native.Nat.{ℕ, ◌+◌, ◌-◌, ◌≤◌, ◌<◌}
+use mathlib.Core.Path.{refl, sym, ap, subst, ◌∙◌}
+use Prim.Native.Nat.{◌+◌}
 use native.Mathlib.Omega.{arith}
-use Rattle.tables.specs.Promises.{plane_judged, refused_at, PlanesJudged}
-use Rattle.tables.specs.declared.Judged.TheVariants.{Fine}
+use Rattle.tables.specs.Promises.{refused_at, PlanesJudged}
 use Rattle.tables.proofs.judge_planes.Goals as goal
 
 pub loop-i-init : goal.loop-i-init

@@ -1,9 +1,6 @@
-use borrow.Author.Rules.{rules}
-use borrow.Author.Count.{below_none, below_more}
-use mathlib.Core.Path.{◌≡◌, refl, sym, ap, subst, ◌∙◌}
-use Prim.Native.Nat.{ℕ, ◌+◌, ◌-◌, ◌≤◌, ◌<◌}
-use native.Mathlib.Omega.{arith}
-use Rattle.tables.specs.Promises.{plane_judged, refused_at, PlanesJudged}
+use mathlib.Core.Path.{◌≡◌}
+use Prim.Native.Nat.{ℕ, ◌-◌, ◌≤◌, ◌<◌}
+use Rattle.tables.specs.Promises.{plane_judged}
 use Rattle.tables.specs.declared.Judged.TheVariants.{Fine}
 use Rattle.tables.proofs.judge_planes.Given as goal
 

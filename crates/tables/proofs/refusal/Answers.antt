@@ -1,7 +1,6 @@
 -- `tables::refusal` meets its contract. Assumes nothing.
 use mathlib.Core.Path.{sym, ap}
 use Rattle.tables.specs.Promises.{refused_at}
-use borrow.Author.Rules.{rules}
 use Rattle.tables.proofs.refusal.Goals as goal
 
 pub returns-in-Refused : goal.returns-in-Refused

@@ -1,6 +1,5 @@
 -- `tables::root_fits` meets its contract. Assumes nothing.
 use Rattle.tables.proofs.Heads.{root_in, root_out, root_last}
-use borrow.Author.Rules.{rules}
 use Rattle.tables.proofs.root_fits.Goals as goal
 
 pub returns-then-root-eq-IN : goal.returns-then-root-eq-IN

@@ -7,4 +7,4 @@ use borrow.Author.Rules.{rules}
 use Rattle.tables.proofs.size_at.Goals as goal
 
 pub returns : goal.returns
-returns c = c.size.ensures ∙ ap nat_abs (back64 (get_or c.args.work.now c.args.i (pos 0)) c.k-1.given)
+returns c = c.size.ensures ∙ ap nat_abs (back64 (get_or c.args.work.now c.args.i (pos 0)) (search rules))

@@ -4,7 +4,6 @@ use Prim.Native.Nat.{◌-◌}
 use Rattle.theory.specs.Text.Counts.{counted}
 use Rattle.tables.specs.Work.{stack}
 use Rattle.tables.proofs.Stacks.{child_in, child_out, child_none, child_wrong, child_top}
-use borrow.Author.Rules.{rules}
 use Rattle.tables.proofs.take_child.Goals as goal
 
 pub returns-then-code-eq-IN : goal.returns-then-code-eq-IN
