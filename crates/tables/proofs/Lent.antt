@@ -18,7 +18,7 @@ use Rattle.scope.specs.Limits.{most_planes, most_nodes}
 use Rattle.scope.specs.Planes.{Fault, fault}
 use Rattle.scope.specs.Solids.{tables}
 use Rattle.scope.specs.Text.{Frame, other, plane, node_row, end}
-use Rattle.scope.specs.Judging.{Sub, add_row, all_used, uses, Rooms, State, fresh, busy, go, stop, head_by, judge_head, root_ok, in_rooms, follows, plane_by, row_by, end_by, step, next, read_solid, refusal, finish, plane_table, node_table, judge_lent}
+use Rattle.scope.specs.Judging.{Sub, add_row, all_used, Rooms, State, fresh, busy, go, stop, head_by, judge_head, root_ok, in_rooms, follows, plane_by, row_by, end_by, step, next, read_solid, refusal, finish, plane_table, node_table, judge_lent}
 use Rattle.theory.specs.Text.Counts.{sizes, size_row, sizes_of, row_size}
 use Rattle.theory.specs.Text.Lent.{lent, lent_rooms}
 use Rattle.tables.specs.Rows.{plane_at, entry_at, planes_to, entries_to, last_before}

@@ -16,7 +16,6 @@ use Rattle.planes.specs.Values.{quad, plane, order_by}
 use Rattle.planes.specs.Promises.{made_by, PlaneMade}
 use Rattle.planes.specs.declared.Plane.{Plane}
 use Rattle.planes.specs.declared.MadePlane.{MadePlane}
-use Rattle.planes.specs.declared.MadePlane.TheVariants as MadePlane
 use Rattle.planes.specs.declared.Order.{Order}
 use Rattle.planes.specs.declared.Order.TheVariants.{Before, Same, After}
 use Rattle.planes.specs.declared.Fault.{Fault}

@@ -11,7 +11,6 @@ use Rattle.theory.specs.Text.Lent.{lent, lent_taken}
 use Rattle.tables.specs.Promises.{judgement, SolidOf}
 use Rattle.tables.specs.declared.Solid.{Solid}
 use Rattle.tables.specs.declared.Judgement.{Judgement}
-use Rattle.tables.specs.declared.Judgement.TheVariants as Judgement
 
 module _ (xs : List ℤ) (ns : List ℕ) (root : ℕ) where
   -- the solid is sound, and is that of a tree

@@ -21,7 +21,6 @@ use Rattle.tables.specs.declared.Solid.{Solid}
 use Rattle.tables.specs.declared.Judged.{Judged}
 use Rattle.tables.specs.declared.Judged.TheVariants.{Fine, Refused}
 use Rattle.tables.specs.declared.Judgement.{Judgement}
-use Rattle.tables.specs.declared.Judgement.TheVariants as Judgement
 use Rattle.tables.proofs.Lent.{BeforePlane, head_stop, head_go, planes_stop, planes_left, planes_go, nodes_begin, nodes_stop, close}
 
 sound_fine : (s t : Solid) (l : ℕ) (j : Judged) → sound_or s l j ≡ Judgement.Sound t → (j ≡ Fine) × (t ≡ s)

@@ -8,7 +8,7 @@ use Rattle.std.specs.Prelude.{◌≡◌, Bool, false, cond, List, [], ◌∷◌,
 use Rattle.std.proofs.Math.Option.{Option, none, some}
 use Rattle.whole.specs.Tests.{◌or◌}
 use Rattle.scope.specs.Planes.{fault}
-use Rattle.scope.specs.Solids.{Tree, tables, tables_of, LawfulTree, marked}
+use Rattle.scope.specs.Solids.{Tree, tables, tables_of, LawfulTree}
 use Rattle.scope.specs.Limits.{stated}
 use Rattle.scope.specs.Judging.{fresh, judge_head, uses, Step, go, done, stop, follows, plane_by, end_by, Verdict, accepted, refusal, judge_lent}
 use Rattle.theory.specs.Text.Counts.{Counted, counted, wrong, size_row}
