@@ -374,6 +374,54 @@ def convert(crate, rel, text, fn, root):
         open(os.path.join(folder, "Answers.antt"), "w").write(("\n".join(head) + "\n" if head else "") + (f"{usetext}\n" if usetext else "") + more + f"use Rattle.{crate}.proofs.{mod}.Goals as goal\n\n" + "\n\n".join(ans) + "\n")
 
 
+def cycle(crate, rel, text, fns, root):
+    """the answers of functions that call one another; their local lemmas are left to be restated by hand"""
+    mod = rel.replace("/", ".")
+    uses, ans = [], []
+    turned = {}
+    for b in blocks(text):
+        t = "\n".join(b).rstrip()
+        first = next((x for x in b if x and not x.startswith("--")), "")
+        if first.startswith("use "):
+            u = "\n".join(x for x in b if x.strip() and not x.startswith("--"))
+            if not re.search(r"\.(Reads|Kinds|Tie|Lts-\w+)\b|borrow\.Fn|\{statement\}", u):
+                uses.append(u)
+            continue
+        m = re.search(r"^([\w'-]+) : \(t : ℕ\) → ([\w-]+)-lts\.Need-([\w-]+)", t, re.M)
+        if m:
+            local, member, old = m.groups()
+            fn = next((f for k, f in fns.items() if norm(k) == norm(member)), None)
+            name = next((k for k in fns if norm(k) == norm(member)), None)
+            hit = fn.need(old) if fn else None
+            body = re.search(r"^" + re.escape(local) + r"((?: \S+)*?) =[ ]?(.*)", t, re.M | re.S)
+            if hit is None or body is None:
+                said.append(f"settled or gone: {member} {old}")
+                continue
+            if body.group(2).strip() == "search rules":
+                continue
+            new, idx = hit
+            full = f"{name}-{new}"
+            turned[local] = full
+            place = fn.byname.get(norm(fn.e["asked_at"][idx][0]))
+            b2 = translate(fn, body.group(2), {"c": ("place", place, "c")}, True)
+            b2 = b2.replace("c.requires.0", "c.decreases").replace("c.requires.1", "c.requires")
+            ans.append((f"pub {full} : goal.{full}\n{full} t c =" + ("" if b2.startswith("\n") else " "), b2))
+            continue
+        m = re.search(r"\(c : ([\w-]+)-lts\.([\w-]+)", t)
+        if m:
+            fn = next((f for k, f in fns.items() if norm(k) == norm(m.group(1))), None)
+            i = fn.byname.get(norm(m.group(2))) if fn else None
+            if i is not None:
+                t = translate(fn, t, {"c": ("place", i, "c")}, True)
+        if re.search(r"(close|spec\b)", t) and "statement" in t or t.startswith("abbrev") and "Lts" not in t:
+            continue
+        ans.append(("", t))
+    ans = [h + tokens_sub(x, turned) for h, x in ans]
+    folder = os.path.join(root, "crates", crate, "proofs", rel)
+    os.makedirs(folder, exist_ok=True)
+    open(os.path.join(folder, "Answers.antt"), "w").write("\n".join(uses) + f"\nuse Rattle.{crate}.proofs.{mod}.Goals as goal\n\n" + "\n\n".join(ans) + "\n")
+
+
 def main():
     crate, old, names = sys.argv[1:4]
     data = json.load(open(names))
@@ -384,6 +432,12 @@ def main():
             continue
         rel = os.path.relpath(folder, base)
         key = f"Rattle-{crate}-proofs.{rel.replace('/', '.')}.Lts"
+        members = {k[len(key) + 1:]: Fn(v) for k, v in data.items() if k.startswith(key + "-")}
+        if members:
+            del said[:]
+            cycle(crate, rel, open(os.path.join(folder, "Proof.antt"), encoding="utf-8").read(), members, ".")
+            print(f"{rel}: a cycle; " + "; ".join(said))
+            continue
         if key not in data:
             print(f"{rel}: no names ({key})")
             continue
