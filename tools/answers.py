@@ -404,6 +404,7 @@ def cycle(crate, rel, text, fns, root):
             turned[local] = full
             place = fn.byname.get(norm(fn.e["asked_at"][idx][0]))
             b2 = translate(fn, body.group(2), {"c": ("place", place, "c")}, True)
+            b2 = b2.replace("c.requires.0", "c.decreases").replace("c.requires.1", "c.requires")
             ans.append((f"pub {full} : goal.{full}\n{full} t c =" + ("" if b2.startswith("\n") else " "), b2))
             continue
         m = re.search(r"\(c : ([\w-]+)-lts\.([\w-]+)", t)

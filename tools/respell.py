@@ -14,8 +14,8 @@ import os
 import re
 import sys
 
-TYPES = {"Classified-in": "ClassifiedIn"}
-PROSE = {"half-space", "half-spaces"}  # English in comments
+TYPES = {"Classified-in": "ClassifiedIn", "ground": "grounds"}  # `ground` is a tactic's name now
+PROSE = {"half-space", "half-spaces", "ground"}  # English in comments
 IDENT = r"[^\s(){}\[\];,.\"`⌜⌝λ]+"
 WORD = re.compile(r"(?<![\w'?+*-])([A-Za-z_][\w'?+-]*)")
 

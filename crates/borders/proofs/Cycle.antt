@@ -89,23 +89,23 @@ module _ {xs : List ℤ} {numbers a b : List ℕ} {t : Stage} {path : List ℤ} 
   half_cuts false = h.back_cuts
 
   pub node_deep : depth < 128
-  node_deep = omega (arith, on_kept_few h.side.own.member (half_on true), h.side.ground.few)
+  node_deep = omega (arith, on_kept_few h.side.own.member (half_on true), h.side.grounds.few)
 
   pub node_room : depth * 9 + 9 ≤ length path
-  node_room = omega (arith, node_deep, h.side.ground.path_room)
+  node_room = omega (arith, node_deep, h.side.grounds.path_room)
 
   pub node_asked : {path' : List ℤ} → Kept path path' depth → length path' ≡ length path → PathIn path' depth × (depth * 9 + 9 ≤ length path')
   node_asked f l = keep_asked f l node_deep h.side.links node_room
 
   pub plane_ranged : {p : struct.Plane} → plane p ≡ other → PlaneIn p.a p.b p.c p.d
-  plane_ranged {p} e = subst (λ q. PlaneIn q.x q.y q.z q.w) (sym e) (in_range_in (is_true (in_range other) (h.side.ground.lawful other other_member).range))
+  plane_ranged {p} e = subst (λ q. PlaneIn q.x q.y q.z q.w) (sym e) (in_range_in (is_true (in_range other) (h.side.grounds.lawful other other_member).range))
 
   module _ (s : Bool) {path' : List ℤ} (k : Laid path path' depth (half s other)) where
     pub side_in : {u v : List ℤ} {c : ℕ} → c ≡ get_or ns (3 * r + child s) 0 → length u ≡ length first → length v ≡ length second → SideIn xs numbers a b t path' (depth + 1) u v c
     side_in {c = c} e eu ev =
         let n : suc depth ≡ depth + 1 = omega arith in
         record {
-          ground = ground_in h.side.ground k.long eu ev;
+          grounds = ground_in h.side.grounds k.long eu ev;
           own = h.side.own;
           here = at_tree h.side.here (side_of s node_row) (subst (λ c. StandsIn xs numbers a b t.mark c (side_of s node_row)) (sym e) (side_stands s node_row));
           on = subst (λ c. OnKept own (list xs) c (depth + 1)) (sym (laid_cell k)) (subst (OnKept own (list xs) (half s other ∷ cell_at path depth)) n (half_on s));
@@ -155,7 +155,7 @@ module _ {xs : List ℤ} {numbers a b : List ℕ} {t : Stage} {path : List ℤ} 
     side_row = as_row low h.here.stands
 
     pub pass_in : PassIn xs numbers a b t path depth first second c
-    pass_in = record { ground = h.ground; own = h.own; plane = side_row.plane; row = side_row.row; on = h.on; links = h.links; cuts = h.cuts }
+    pass_in = record { grounds = h.grounds; own = h.own; plane = side_row.plane; row = side_row.row; on = h.on; links = h.links; cuts = h.cuts }
 
     module _ {path' : List ℤ} {y : Passed} (d : PassTold xs numbers a b t path path' depth c y) where
       same_cell : cell_at path depth ≡ cell_at path' depth
@@ -169,7 +169,7 @@ module _ {xs : List ℤ} {numbers a b : List ℕ} {t : Stage} {path : List ℤ} 
         where
           by : {f g : ℕ} → Passes (plane_at xs t.plane) (plane_of xs numbers a b t c) (fronts t.front) (cell_at path depth) f g Both → NodeIn xs numbers a b t path' depth u v c
           by (Passes.both n i j) = record {
-            side = record { ground = ground_in h.ground l eu ev; own = h.own; here = h.here; on = same_on; links = links_same d.kept.rows h.links; cuts = subst (Cuts (plane_at xs t.plane)) same_cell h.cuts };
+            side = record { grounds = ground_in h.grounds l eu ev; own = h.own; here = h.here; on = same_on; links = links_same d.kept.rows h.links; cuts = subst (Cuts (plane_at xs t.plane)) same_cell h.cuts };
             row = low;
             other = n;
             front_cuts = subst (λ e. Cuts (plane_at xs t.plane) (plane_of xs numbers a b t c ∷ e)) same_cell i;
@@ -201,7 +201,7 @@ module _ {xs : List ℤ} {numbers a b : List ℕ} {t : Stage} {path : List ℤ} 
         code_in l eu ev =
             let i = h.here in
             let q = onto i.operation i.tree_a i.tree_b i.front i.turn i.front_is i.stands in
-            record { ground = ground_in h.ground l eu ev; own = h.own; here = at_tree i q.tree q.stands; on = same_on; links = links_same d.kept.rows h.links; cuts = subst (Cuts (plane_at xs t.plane)) same_cell h.cuts }
+            record { grounds = ground_in h.grounds l eu ev; own = h.own; here = at_tree i q.tree q.stands; on = same_on; links = links_same d.kept.rows h.links; cuts = subst (Cuts (plane_at xs t.plane)) same_cell h.cuts }
 
         pub side_code : {path'' : List ℤ} {z : Found} → Did xs numbers a b t path' path'' depth e z → Did xs numbers a b t path path'' depth c z
         side_code {path''} {z} k = record {
@@ -252,8 +252,8 @@ module _ {xs : List ℤ} {numbers a b : List ℕ} {t : Stage} {path : List ℤ} 
         walk_in = by walks
           where
             by : {f j : Option Mark} {x : Mark} {u : Stage} {root : ℕ} → Follows h.here.operation t f j x (Walk u root) → SideIn xs numbers a b u path depth first second root
-            by (to_b f x) = let i = h.here in record { ground = h.ground; own = h.own; here = record { operation = i.operation; tree_a = i.tree_a; tree_b = i.tree_b; pair_is = i.pair_is; front = f; front_is = refl; turn = some x; turn_is = refl; tree = i.tree_b; stands = b_stands x i.pair_is.second_stands }; on = h.on; links = h.links; cuts = h.cuts }
-            by (to_backs m x) = let i = h.here in record { ground = h.ground; own = h.own; here = record { operation = i.operation; tree_a = i.tree_a; tree_b = i.tree_b; pair_is = i.pair_is; front = some (operate i.operation m x); front_is = refl; turn = none; turn_is = refl; tree = i.tree_a; stands = i.pair_is.first_stands }; on = h.on; links = h.links; cuts = h.cuts }
+            by (to_b f x) = let i = h.here in record { grounds = h.grounds; own = h.own; here = record { operation = i.operation; tree_a = i.tree_a; tree_b = i.tree_b; pair_is = i.pair_is; front = f; front_is = refl; turn = some x; turn_is = refl; tree = i.tree_b; stands = b_stands x i.pair_is.second_stands }; on = h.on; links = h.links; cuts = h.cuts }
+            by (to_backs m x) = let i = h.here in record { grounds = h.grounds; own = h.own; here = record { operation = i.operation; tree_a = i.tree_a; tree_b = i.tree_b; pair_is = i.pair_is; front = some (operate i.operation m x); front_is = refl; turn = none; turn_is = refl; tree = i.tree_a; stands = i.pair_is.first_stands }; on = h.on; links = h.links; cuts = h.cuts }
 
         pub next_falls : left u + rank root < left t
         next_falls = walk_falls h.here.front_is h.here.turn_is (code_small walk_in.here.stands) walks

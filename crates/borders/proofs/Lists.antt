@@ -111,9 +111,9 @@ module _ {xs : List ℤ} {numbers a b : List ℕ} {pair : Pair} {path₀ first�
     module _ (more : i < length xs / 4) where
       pub next_in : BoundaryIn xs numbers a b pair path first second i
       next_in =
-          let g = h.ground in
+          let g = h.grounds in
           record {
-            ground = record { lawful = g.lawful; few = g.few; path_room = omega (arith, l.path_long, g.path_room); first_room = omega (arith, l.first_long, g.first_room); second_room = omega (arith, l.second_long, g.second_room) };
+            grounds = record { lawful = g.lawful; few = g.few; path_room = omega (arith, l.path_long, g.path_room); first_room = omega (arith, l.first_long, g.first_room); second_room = omega (arith, l.second_long, g.second_room) };
             own = own_row h.order i (omega (arith, more, list_length xs));
             operation = h.operation;
             tree_a = h.tree_a;
@@ -122,7 +122,7 @@ module _ {xs : List ℤ} {numbers a b : List ℕ} {pair : Pair} {path₀ first�
           }
 
       pub room_in : (k < length boundary) × (i < 65536)
-      room_in = (omega (arith, more, l.few, l.boundary_long, h.room, h.ground.few, list_length xs), omega (arith, more, h.ground.few, list_length xs))
+      room_in = (omega (arith, more, l.few, l.boundary_long, h.room, h.grounds.few, list_length xs), omega (arith, more, h.grounds.few, list_length xs))
 
       pub listing_next : {path' first' second' : List ℤ} {boundary' : List ℕ} {z : Found} {r : ℕ} → length path' ≡ length path → length first' ≡ length first → length second' ≡ length second → length boundary' ≡ length boundary
           → BoundaryTold xs numbers a b pair i z → Lists boundary boundary' k i z r → Listing xs numbers a b pair path₀ first₀ second₀ boundary₀ path' first' second' boundary' r (i + 1)
@@ -145,6 +145,6 @@ module _ {xs : List ℤ} {numbers a b : List ℕ} {pair : Pair} {path₀ first�
         let e : i ≡ length (list xs) = omega (arith, end, l.inside, list_length xs) in
         record {
           few = omega (arith, e, l.few);
-          bounded = λ o A B pi ms. so_far_all (omega (arith, e, l.few, l.boundary_long, h.room, h.ground.few)) (subst (SoFar (both (operate o) A B) xs boundary k) e (l.so_far o A B pi ms))
+          bounded = λ o A B pi ms. so_far_all (omega (arith, e, l.few, l.boundary_long, h.room, h.grounds.few)) (subst (SoFar (both (operate o) A B) xs boundary k) e (l.so_far o A B pi ms))
               (λ q m. elim (in_either (planes A) (planes B) m) [ inl j ↦ stands_planes pi.first_stands q j | inr j ↦ stands_planes pi.second_stands q j ]);
         }

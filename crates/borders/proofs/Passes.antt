@@ -64,16 +64,16 @@ module _ {xs : List ℤ} {numbers a b : List ℕ} {t : Stage} {path : List ℤ} 
       parts_in =
           let k = on_kept_few h.own.member h.on in
           record {
-            lawful = subst Lawful (sym ep) (h.ground.lawful own h.own.member);
-            other_lawful = subst Lawful (sym (other_is ∙ h.row.plane)) (h.ground.lawful h.plane h.row.member);
+            lawful = subst Lawful (sym ep) (h.grounds.lawful own h.own.member);
+            other_lawful = subst Lawful (sym (other_is ∙ h.row.plane)) (h.grounds.lawful h.plane h.row.member);
             other = λ e. apart d (sym other_is ∙ e ∙ ep);
-            deep = omega (arith, k, h.ground.few);
-            room = omega (arith, k, h.ground.few, h.ground.path_room);
-            ranged = rows_ranged path h.ground.lawful depth h.on;
+            deep = omega (arith, k, h.grounds.few);
+            room = omega (arith, k, h.grounds.few, h.grounds.path_room);
+            ranged = rows_ranged path h.grounds.lawful depth h.on;
             links = h.links;
             cuts = subst (λ p. Cuts p (cell_at path depth)) (sym ep) h.cuts;
-            first_room = h.ground.first_room;
-            second_room = h.ground.second_room;
+            first_room = h.grounds.first_room;
+            second_room = h.grounds.second_room;
           }
 
       module _ {path' : List ℤ} {z : Parted} (k : PartsTold (plane p) (plane q) path path' depth z) where

@@ -50,10 +50,10 @@ module _ {xs : List ℤ} {numbers a b : List ℕ} {pair : Pair} {path first seco
   own = plane_at xs i
 
   own_lawful : Lawful own
-  own_lawful = h.ground.lawful own h.own.member
+  own_lawful = h.grounds.lawful own h.own.member
 
   pub own_few : i < 128
-  own_few = omega (arith, own_small h.own, h.ground.few)
+  own_few = omega (arith, own_small h.own, h.grounds.few)
 
   -- the first stage
   abbrev pub begun : Stage
@@ -68,8 +68,8 @@ module _ {xs : List ℤ} {numbers a b : List ℕ} {pair : Pair} {path first seco
       room = omega arith;
       ranged = λ i l. absurd (omega (arith, l));
       links = λ i l. absurd (omega (arith, l));
-      first_room = h.ground.first_room;
-      second_room = h.ground.second_room;
+      first_room = h.grounds.first_room;
+      second_room = h.grounds.second_room;
     }
 
     module _ {r : Witnessed} (w : CutTold (plane p) (cell_at path 0) r) where
@@ -83,7 +83,7 @@ module _ {xs : List ℤ} {numbers a b : List ℕ} {pair : Pair} {path first seco
       module _ {m : Meeting} (f : r ≡ At m) where
         pub begun_in : {u v : List ℤ} → length u ≡ length first → length v ≡ length second → SideIn xs numbers a b begun path 0 u v pair.ar
         begun_in eu ev = record {
-          ground = record { lawful = h.ground.lawful; few = h.ground.few; path_room = h.ground.path_room; first_room = omega (arith, eu, h.ground.first_room); second_room = omega (arith, ev, h.ground.second_room) };
+          grounds = record { lawful = h.grounds.lawful; few = h.grounds.few; path_room = h.grounds.path_room; first_room = omega (arith, eu, h.grounds.first_room); second_room = omega (arith, ev, h.grounds.second_room) };
           own = h.own;
           here = record { operation = h.operation; tree_a = h.tree_a; tree_b = h.tree_b; pair_is = h.pair_is; front = none; front_is = refl; turn = none; turn_is = refl; tree = h.tree_a; stands = h.pair_is.first_stands };
           on = subst (λ c. OnKept own (list xs) c 0) (sym (box_at path)) on_none;
@@ -97,7 +97,7 @@ module _ {xs : List ℤ} {numbers a b : List ℕ} {pair : Pair} {path first seco
             (subst (λ c. Told (Differs o own A B none none c A) z) (box_at path) (d.told o A B none none A pi refl refl pi.first_stands))
           where
             each : {ns : List ℕ} {k c : ℕ} {t : Tree} → Stands xs numbers ns k c t → EachPlane Lawful t
-            each s = record { each = λ p m. h.ground.lawful p (stands_planes s p m) }
+            each s = record { each = λ p m. h.grounds.lawful p (stands_planes s p m) }
 
             general : General (planes A ++ planes B)
             general = lawful_general (λ p m. elim (in_either (planes A) (planes B) m) [ inl j ↦ (each pi.first_stands).each p j | inr j ↦ (each pi.second_stands).each p j ])

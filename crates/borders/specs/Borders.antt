@@ -26,7 +26,7 @@ Members xs A B = (p : Plane) → p ∈ list xs → p ∈ (planes A ++ planes B)
 -- ---- one plane
 
 pub record BoundaryIn (xs : List ℤ) (numbers a b : List ℕ) (pair : Pair) (path first second : List ℤ) (i : ℕ) : Type 0 where
-  pub ground : Ground xs path first second
+  pub grounds : Ground xs path first second
   pub own : Own xs i
   pub operation : Operation
   pub tree_a : Tree
@@ -43,7 +43,7 @@ pub data Lists (l l' : List ℕ) (k i : ℕ) : Found → ℕ → Type 0 where
 -- ---- all planes
 
 pub record BordersIn (xs : List ℤ) (numbers a b : List ℕ) (pair : Pair) (path first second : List ℤ) (boundary : List ℕ) : Type 0 where
-  pub ground : Ground xs path first second
+  pub grounds : Ground xs path first second
   pub order : Ascending (list xs)
   pub operation : Operation
   pub tree_a : Tree

@@ -131,7 +131,7 @@ abbrev pub plane_of : List ℤ → List ℕ → List ℕ → List ℕ → Stage 
 plane_of xs numbers a b t r = plane_at xs (plane_number numbers (offset t.mark) (walked a b t) r)
 
 pub record PassIn (xs : List ℤ) (numbers a b : List ℕ) (t : Stage) (path : List ℤ) (depth : ℕ) (first second : List ℤ) (r : ℕ) : Type 0 where
-  pub ground : Ground xs path first second
+  pub grounds : Ground xs path first second
   pub own : Own xs t.plane
   pub plane : Plane
   pub row : RowIs xs numbers (walked a b t) (offset t.mark) r plane
@@ -183,7 +183,7 @@ pub record Here (xs : List ℤ) (numbers a b : List ℕ) (t : Stage) (c : ℕ) :
   pub stands : StandsIn xs numbers a b t.mark c tree
 
 pub record SideIn (xs : List ℤ) (numbers a b : List ℕ) (t : Stage) (path : List ℤ) (depth : ℕ) (first second : List ℤ) (c : ℕ) : Type 0 where
-  pub ground : Ground xs path first second
+  pub grounds : Ground xs path first second
   pub own : Own xs t.plane
   pub here : Here xs numbers a b t c
   pub on : OnPlane xs (plane_at xs t.plane) path depth

@@ -41,7 +41,7 @@ module _ {t : Pair} {pa : List ℤ} {na : List ℕ} {pb : List ℤ} {nb : List �
       let a = h.first_solid in
       let b = h.second_solid in
       let r = lent_numbers l numbers en in
-      record { ground = ground_in h l j en e refl refl refl; order = (joined_in_order a b j r e).order; operation = h.operation; tree_a = h.first; tree_b = h.second; pair_is = pair_is h.op_is a b; members = joined_from a b j r e; room = room }
+      record { grounds = ground_in h l j en e refl refl refl; order = (joined_in_order a b j r e).order; operation = h.operation; tree_a = h.first; tree_b = h.second; pair_is = pair_is h.op_is a b; members = joined_from a b j r e; room = room }
 
   pub boundary_few : {bs' : List ℕ} {k : ℕ} → BordersTold ls numbers na nb t bs' k → k ≤ 128
   boundary_few q = omega (arith, q.few, (joined_in_order h.first_solid h.second_solid j (lent_numbers l numbers en) e).few)
@@ -57,7 +57,7 @@ module _ {t : Pair} {pa : List ℤ} {na : List ℕ} {pb : List ℤ} {nb : List �
     cell_in ep ef es =
         let a = h.first_solid in
         let b = h.second_solid in
-        record { ground = ground_in h l j en e ep ef es; ordered = (joined_in_order a b j (lent_numbers l numbers en) e).order; operation = h.operation; tree_a = h.first; tree_b = h.second; cell = box; given = box_given h.op_is a b; room = record { rows = omega arith; few = omega arith } }
+        record { grounds = ground_in h l j en e ep ef es; ordered = (joined_in_order a b j (lent_numbers l numbers en) e).order; operation = h.operation; tree_a = h.first; tree_b = h.second; cell = box; given = box_given h.op_is a b; room = record { rows = omega arith; few = omega arith } }
 
     module _ {path'' : List ℤ} {ns' : List ℕ} {z : Walked} (d : Formed ls numbers na nb bs t path' path'' 0 ns ns' 0 0 z) (en' : length ns' ≡ length ns) where
       pub form_rows : (o : Operation) (A B s : Tree) → t.op ≡ operation_code o → SolidOf pa na t.ar A → SolidOf pb nb t.br B → Normal (both (operate o) A B) box s → RowsOf ls ns ns' z s

@@ -59,7 +59,7 @@ pub record GroundIn (hs : List ℤ) (ns list form : List ℕ) (f : struct.Facet)
 
 -- R is the region of the facet's polygon; the tree t, whose rows are rs, stands in the slot that it has come to
 pub record WayOf (hs : List ℤ) (ns list form : List ℕ) (path : List ℤ) (w : Way) (R : List Plane) (t : Tree) (rs : List ℕ) : Type 0 where
-  pub ground : GroundIn hs ns list form w.facet
+  pub grounds : GroundIn hs ns list form w.facet
   pub slot : Slot (space_of hs ns w) (listed hs list) form w.rows w.row w.side (cell_at path w.depth) t rs
   pub rest : RestOf (listed hs list) (drop w.place (listed hs list)) (cell_at path w.depth)
   pub deep : w.depth ≤ w.place

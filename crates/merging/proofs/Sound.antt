@@ -30,7 +30,7 @@ module _ {op : ℕ} {pa : List ℤ} {na : List ℕ} {ra : ℕ} {pb : List ℤ} {
       let b = h.second_solid in
       let r = lent_numbers l numbers en in
       record {
-        ground = ground_in h l j en e refl refl refl;
+        grounds = ground_in h l j en e refl refl refl;
         here = record { operation = h.operation; op_is = h.op_is; turn = none; turn_is = refl; tree = h.first; stands = stands_a a b j r e; second = h.second; second_stands = stands_b a b j r e; cell = box; on = at_box };
         room = record { rows = omega arith; few = omega arith };
       }

@@ -78,7 +78,7 @@ turn_of t = record { op = t.op; root = t.br; mark = 0 }
 module _ {xs : List ℤ} {numbers a b : List ℕ} {t : Pair} {path : List ℤ} {depth : ℕ} {first second : List ℤ} where
   pub kind_side : KindIn xs numbers a b t path depth first second → {out : List ℕ} → SideIn xs numbers a b (turn_of t) path depth first second out 0 t.ar
   kind_side h = record {
-    ground = h.ground;
+    grounds = h.grounds;
     here = record { operation = h.operation; op_is = h.stood.pair.op_is; turn = none; turn_is = refl; tree = h.tree_a; stands = h.stood.pair.first_stands; second = h.tree_b; second_stands = h.stood.pair.second_stands; cell = h.cell; on = h.stood.on };
     room = record { rows = omega arith; few = omega arith };
   }

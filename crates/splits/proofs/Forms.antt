@@ -37,7 +37,7 @@ use Rattle.splits.proofs.Shapes.{not_uniform, formed_leaf, Halves, formed_node}
 
 module _ {xs : List ℤ} {numbers a b bs : List ℕ} {t : Pair} {path : List ℤ} {depth : ℕ} {first second : List ℤ} {out : List ℕ} {next k : ℕ} (h : CellIn xs numbers a b bs t path depth first second out next k) where
   pub kind_in : KindIn xs numbers a b t path depth first second
-  kind_in = record { ground = h.ground; operation = h.operation; tree_a = h.tree_a; tree_b = h.tree_b; cell = h.cell; stood = h.given.stood }
+  kind_in = record { grounds = h.grounds; operation = h.operation; tree_a = h.tree_a; tree_b = h.tree_b; cell = h.cell; stood = h.given.stood }
 
   module _ {path' : List ℤ} {y : Kind} (d : KindTold xs numbers a b t path path' depth y) where
     -- a uniform cell is a leaf
@@ -49,7 +49,7 @@ module _ {xs : List ℤ} {numbers a b bs : List ℕ} {t : Pair} {path : List ℤ
     }
       where
         by : (o : Operation) (A B s : Tree) (c : List Plane) → Given xs numbers a b bs t path depth k o A B c → Normal (both (operate o) A B) c s → {m : ℕ} → KindIs (both (operate o) A B) c (Uniform m) → Emitted (list xs) out out next s (Done m next)
-        by o A B s c g n (is_uniform m u) = subst (λ s. Emitted (list xs) out out next s (Done (number (mark m)) next)) (sym (formed_leaf (space_general h.ground g.stood) (on_inside g.stood.on).1 u n)) (mark_done (list xs) out next m h.room)
+        by o A B s c g n (is_uniform m u) = subst (λ s. Emitted (list xs) out out next s (Done (number (mark m)) next)) (sym (formed_leaf (space_general h.grounds g.stood) (on_inside g.stood.on).1 u n)) (mark_done (list xs) out next m h.room)
 
     -- any other is not
     module _ (e : y ≡ Mixed) where
@@ -64,10 +64,10 @@ module _ {xs : List ℤ} {numbers a b bs : List ℕ} {t : Pair} {path : List ℤ
 
       module _ (l : length path' ≡ length path) {first' second' : List ℤ} (lf : length first' ≡ length first) (ls : length second' ≡ length second) where
         ground_in : Ground xs path' first' second'
-        ground_in = record { lawful = h.ground.lawful; few = h.ground.few; path_room = omega (arith, l, h.ground.path_room); first_room = omega (arith, lf, h.ground.first_room); second_room = omega (arith, ls, h.ground.second_room) }
+        ground_in = record { lawful = h.grounds.lawful; few = h.grounds.few; path_room = omega (arith, l, h.grounds.path_room); first_room = omega (arith, lf, h.grounds.first_room); second_room = omega (arith, ls, h.grounds.second_room) }
 
         pub scan_in : ScanIn xs bs path' depth first' second'
-        scan_in = record { ground = ground_in; places = λ i n. (h.given.bounded.are i n).0; cell = h.cell; on = kept_on h.given.stood.on }
+        scan_in = record { grounds = ground_in; places = λ i n. (h.given.bounded.are i n).0; cell = h.cell; on = kept_on h.given.stood.on }
 
       module _ {f : First} (w : FirstTold xs bs path' depth k (length bs) f) where
         -- some listed plane cuts a mixed cell
@@ -75,7 +75,7 @@ module _ {xs : List ℤ} {numbers a b bs : List ℕ} {t : Pair} {path : List ℤ
         form_nothing q {A} = absurd (by (subst (FirstIs xs bs h.cell k (length bs)) q (w h.cell (kept_on h.given.stood.on))))
           where
             by : FirstIs xs bs h.cell k (length bs) Nothing → ⊥
-            by (nowhere n) = some_cuts h.given.rest (space_general h.ground h.given.stood) (on_within h.given.stood.on) (mixed h.operation h.tree_a h.tree_b h.cell h.given) n
+            by (nowhere n) = some_cuts h.given.rest (space_general h.grounds h.given.stood) (on_within h.given.stood.on) (mixed h.operation h.tree_a h.tree_b h.cell h.given) n
 
         module _ {i : ℕ} {x : Meeting} (q : f ≡ At i x) where
           -- the first listed plane that cuts a cell
@@ -106,7 +106,7 @@ module _ {xs : List ℤ} {numbers a b bs : List ℕ} {t : Pair} {path : List ℤ
 
           pub halves_in : length path' ≡ length path → {first' second' : List ℤ} → length first' ≡ length first → length second' ≡ length second → HalvesIn xs numbers a b bs t path' depth first' second' out next i x
           halves_in l lf ls = record {
-            whole = record { ground = ground_in l lf ls; ordered = h.ordered; operation = h.operation; tree_a = h.tree_a; tree_b = h.tree_b; cell = h.cell; given = given_on h.given; room = h.room };
+            whole = record { grounds = ground_in l lf ls; ordered = h.ordered; operation = h.operation; tree_a = h.tree_a; tree_b = h.tree_b; cell = h.cell; given = given_on h.given; room = h.room };
             inside = listed_in;
             witness = (found h.given.stood.on).witness;
           }

@@ -49,7 +49,7 @@ module _ {xs : List ℤ} {numbers a b bs : List ℕ} {t : Pair} {path₀ : List 
   listed_there = place_there xs listed_small
 
   plane_in : In xs the_plane
-  plane_in = record { lawful = h.whole.ground.lawful the_plane (place_member xs listed_small); member = place_member xs listed_small }
+  plane_in = record { lawful = h.whole.grounds.lawful the_plane (place_member xs listed_small); member = place_member xs listed_small }
 
   cuts : Cuts the_plane h.whole.cell
   cuts = record { point = meeting x; on = h.witness.on; inside = h.witness.inside }
@@ -59,10 +59,10 @@ module _ {xs : List ℤ} {numbers a b bs : List ℕ} {t : Pair} {path₀ : List 
   plane_ranged {p} e = subst (λ q. PlaneIn q.x q.y q.z q.w) (sym e) (in_range_in (is_true (in_range the_plane) plane_in.lawful.range))
 
   pub halves_deep : depth < 128
-  halves_deep = omega (arith, kept_few (take true the_plane plane_in.member cuts (on_kept (λ p q. q.member) h.whole.given.stood.on)), h.whole.ground.few)
+  halves_deep = omega (arith, kept_few (take true the_plane plane_in.member cuts (on_kept (λ p q. q.member) h.whole.given.stood.on)), h.whole.grounds.few)
 
   pub halves_room : depth * 9 + 9 ≤ length path₀
-  halves_room = omega (arith, halves_deep, h.whole.ground.path_room)
+  halves_room = omega (arith, halves_deep, h.whole.grounds.path_room)
 
   -- what a push is given, where the rows before are as they were
   pub push_asked : {path : List ℤ} → ((i : ℕ) → i < depth * 9 → get_or path i (pos 0) ≡ get_or path₀ i (pos 0)) → length path ≡ length path₀ → PathIn path depth × (depth * 9 + 9 ≤ length path)
@@ -94,9 +94,9 @@ module _ {xs : List ℤ} {numbers a b bs : List ℕ} {t : Pair} {path₀ : List 
 
     pub half_in : {v w : List ℤ} {out : List ℕ} {m : ℕ} → length v ≡ length first → length w ≡ length second → Room out m → CellIn xs numbers a b bs t path' (depth + 1) v w out m (k + 1)
     half_in ev ew r =
-        let g = h.whole.ground in
+        let g = h.whole.grounds in
         record {
-          ground = record { lawful = g.lawful; few = g.few; path_room = omega (arith, u.long, u.long', g.path_room); first_room = omega (arith, ev, g.first_room); second_room = omega (arith, ew, g.second_room) };
+          grounds = record { lawful = g.lawful; few = g.few; path_room = omega (arith, u.long, u.long', g.path_room); first_room = omega (arith, ev, g.first_room); second_room = omega (arith, ew, g.second_room) };
           ordered = h.whole.ordered;
           operation = h.whole.operation;
           tree_a = h.whole.tree_a;

@@ -34,8 +34,8 @@ module _ {xs : List ℤ} {bs : List ℕ} {path : List ℤ} {depth : ℕ} {first 
   -- the tables of a section are as long as they were
   pub scan_same : {u v : List ℤ} → length u ≡ length first → length v ≡ length second → ScanIn xs bs path depth u v
   scan_same eu ev =
-      let g = h.ground in
-      record { ground = record { lawful = g.lawful; few = g.few; path_room = g.path_room; first_room = omega (arith, eu, g.first_room); second_room = omega (arith, ev, g.second_room) }; places = h.places; cell = h.cell; on = h.on }
+      let g = h.grounds in
+      record { grounds = record { lawful = g.lawful; few = g.few; path_room = g.path_room; first_room = omega (arith, eu, g.first_room); second_room = omega (arith, ev, g.second_room) }; places = h.places; cell = h.cell; on = h.on }
 
 module _ {xs : List ℤ} {bs : List ℕ} {path : List ℤ} {depth : ℕ} {first second : List ℤ} (h : ScanIn xs bs path depth first second) {i : ℕ} (l : i < length bs) where
   pub scan_there : 4 * get_or bs i 0 + 3 < length xs
@@ -45,13 +45,13 @@ module _ {xs : List ℤ} {bs : List ℕ} {path : List ℤ} {depth : ℕ} {first 
   module _ {p : struct.Plane} (e : plane p ≡ listed xs bs i) where
     pub scan_classify : ClassifyIn (plane p) path depth first second
     scan_classify = record {
-      lawful = subst Lawful (sym e) (h.ground.lawful (listed xs bs i) (place_member xs (h.places i l)));
-      few = omega (arith, on_few h.on, h.ground.few);
-      room = omega (arith, on_few h.on, h.ground.few, h.ground.path_room);
+      lawful = subst Lawful (sym e) (h.grounds.lawful (listed xs bs i) (place_member xs (h.places i l)));
+      few = omega (arith, on_few h.on, h.grounds.few);
+      room = omega (arith, on_few h.on, h.grounds.few, h.grounds.path_room);
       cell = h.cell;
       on = on_map (λ p q. q.lawful) h.on;
-      first_room = h.ground.first_room;
-      second_room = h.ground.second_room;
+      first_room = h.grounds.first_room;
+      second_room = h.grounds.second_room;
     }
 
     module _ {k : Classified} (f : ClassifiedIn (plane p) path depth k) where

@@ -46,7 +46,7 @@ pub record Given (xs : List ℤ) (numbers a b bs : List ℕ) (t : Pair) (path : 
 -- ---- a cell's kind
 
 pub record KindIn (xs : List ℤ) (numbers a b : List ℕ) (t : Pair) (path : List ℤ) (depth : ℕ) (first second : List ℤ) : Type 0 where
-  pub ground : Ground xs path first second
+  pub grounds : Ground xs path first second
   pub operation : Operation
   pub tree_a : Tree
   pub tree_b : Tree
@@ -65,7 +65,7 @@ pub record KindTold (xs : List ℤ) (numbers a b : List ℕ) (t : Pair) (path pa
 
 -- places in the joined list, and the cell of a path
 pub record ScanIn (xs : List ℤ) (bs : List ℕ) (path : List ℤ) (depth : ℕ) (first second : List ℤ) : Type 0 where
-  pub ground : Ground xs path first second
+  pub grounds : Ground xs path first second
   pub places : (i : ℕ) → i < length bs → get_or bs i 0 < length (list xs)
   pub cell : List Plane
   pub on : OnPath (In xs) path depth cell
@@ -82,7 +82,7 @@ FirstTold xs bs path depth k n r = (c : List Plane) → OnPath (In xs) path dept
 -- ---- the form
 
 pub record CellIn (xs : List ℤ) (numbers a b bs : List ℕ) (t : Pair) (path : List ℤ) (depth : ℕ) (first second : List ℤ) (out : List ℕ) (next k : ℕ) : Type 0 where
-  pub ground : Ground xs path first second
+  pub grounds : Ground xs path first second
   pub ordered : Ascending (list xs)
   pub operation : Operation
   pub tree_a : Tree

@@ -101,7 +101,7 @@ module _ {xs : List ℤ} {numbers a b : List ℕ} {t : Turn} {path₀ : List ℤ
   own = node_row.row
 
   plane_in : In xs the_plane
-  plane_in = subst (In xs) (sym own.plane) (record { lawful = h.side.ground.lawful node_row.plane own.member; member = own.member })
+  plane_in = subst (In xs) (sym own.plane) (record { lawful = h.side.grounds.lawful node_row.plane own.member; member = own.member })
 
   cuts : Cuts the_plane h.side.here.cell
   cuts = record { point = meeting x; on = h.witness.on; inside = h.witness.inside }
@@ -111,10 +111,10 @@ module _ {xs : List ℤ} {numbers a b : List ℕ} {t : Turn} {path₀ : List ℤ
   plane_ranged {p} e = subst (λ q. PlaneIn q.x q.y q.z q.w) (sym e) (in_range_in (is_true (in_range the_plane) plane_in.lawful.range))
 
   pub node_deep : depth < 128
-  node_deep = omega (arith, kept_few (take true the_plane plane_in.member cuts (on_kept (λ p q. q.member) h.side.here.on)), h.side.ground.few)
+  node_deep = omega (arith, kept_few (take true the_plane plane_in.member cuts (on_kept (λ p q. q.member) h.side.here.on)), h.side.grounds.few)
 
   pub node_room : depth * 9 + 9 ≤ length path₀
-  node_room = omega (arith, node_deep, h.side.ground.path_room)
+  node_room = omega (arith, node_deep, h.side.grounds.path_room)
 
   -- what a push is given, where the rows before are as they were
   pub push_asked : {path : List ℤ} → ((i : ℕ) → i < depth * 9 → get_or path i (pos 0) ≡ get_or path₀ i (pos 0)) → length path ≡ length path₀ → PathIn path depth × (depth * 9 + 9 ≤ length path)
@@ -139,13 +139,13 @@ module _ {xs : List ℤ} {numbers a b : List ℕ} {t : Turn} {path₀ : List ℤ
 
     pub side_in : {u v : List ℤ} {out : List ℕ} {m c : ℕ} → c ≡ get_or ns (3 * r + child s) 0 → length u ≡ length first → length v ≡ length second → Room out m → SideIn xs numbers a b t path' (depth + 1) u v out m c
     side_in {u} {v} {out} {m} {c} e eu ev w = record {
-      ground = record { lawful = g.lawful; few = g.few; path_room = omega (arith, k.long, k.long', g.path_room); first_room = omega (arith, eu, g.first_room); second_room = omega (arith, ev, g.second_room) };
+      grounds = record { lawful = g.lawful; few = g.few; path_room = omega (arith, k.long, k.long', g.path_room); first_room = omega (arith, eu, g.first_room); second_room = omega (arith, ev, g.second_room) };
       here = record { operation = i.operation; op_is = i.op_is; turn = i.turn; turn_is = i.turn_is; tree = tree s; stands = subst (λ c. StandsIn xs numbers a b t.mark c (tree s)) (sym e) (stands s); second = i.second; second_stands = i.second_stands; cell = half s the_plane ∷ i.cell; on = on_half i.on };
       room = w;
     }
       where
         g : Ground xs path₀ first second
-        g = h.side.ground
+        g = h.side.grounds
 
         i : Here xs numbers a b t path₀ depth r
         i = h.side.here
@@ -231,18 +231,18 @@ module _ {xs : List ℤ} {numbers a b : List ℕ} {t : Turn} {path₀ : List ℤ
 module _ {xs : List ℤ} {numbers a b : List ℕ} {t : Turn} {path : List ℤ} {depth : ℕ} {first second : List ℤ} {out : List ℕ} {next c : ℕ} (h : SideIn xs numbers a b t path depth first second out next c) where
   -- the tables of a section are as long as they were
   ground_in : {u v : List ℤ} → length u ≡ length first → length v ≡ length second → Ground xs path u v
-  ground_in eu ev = record { lawful = h.ground.lawful; few = h.ground.few; path_room = h.ground.path_room; first_room = omega (arith, eu, h.ground.first_room); second_room = omega (arith, ev, h.ground.second_room) }
+  ground_in eu ev = record { lawful = h.grounds.lawful; few = h.grounds.few; path_room = h.grounds.path_room; first_room = omega (arith, eu, h.grounds.first_room); second_room = omega (arith, ev, h.grounds.second_room) }
 
   -- at a row
   module _ (low : c < 65534) where
     pub step_in : StepIn xs numbers a b t.mark path depth first second c
-    step_in = record { ground = h.ground; cell = h.here.cell; on = h.here.on; tree = h.here.tree; stands = h.here.stands; row = low }
+    step_in = record { grounds = h.grounds; cell = h.here.cell; on = h.here.on; tree = h.here.tree; stands = h.here.stands; row = low }
 
     module _ {y : Reached.Reached} (d : StepTold xs numbers a b t.mark path depth c y) where
       pub cut_in : {x : Meeting} → y ≡ Reached.TheVariants.Cut x → {u v : List ℤ} → length u ≡ length first → length v ≡ length second → NodeIn xs numbers a b t path depth u v out next c x
       cut_in e eu ev =
           let i = h.here in
-          record { side = record { ground = ground_in eu ev; here = i; room = h.room }; row = low; witness = subst (Leads xs numbers a b t.mark c i.cell i.tree) e (d.leads i.cell i.tree i.on i.stands) }
+          record { side = record { grounds = ground_in eu ev; here = i; room = h.room }; row = low; witness = subst (Leads xs numbers a b t.mark c i.cell i.tree) e (d.leads i.cell i.tree i.on i.stands) }
 
       module _ {e : ℕ} (f : y ≡ Reached.TheVariants.Code e) where
         leads : (cell : List Plane) (w : Tree) → OnPath (In xs) path depth cell → StandsIn xs numbers a b t.mark c w → ToCode xs numbers a b t.mark cell w e
@@ -253,7 +253,7 @@ module _ {xs : List ℤ} {numbers a b : List ℕ} {t : Turn} {path : List ℤ} {
             let i = h.here in
             let q = leads i.cell i.tree i.on i.stands in
             record {
-              ground = ground_in eu ev;
+              grounds = ground_in eu ev;
               here = record { operation = i.operation; op_is = i.op_is; turn = i.turn; turn_is = i.turn_is; tree = q.tree; stands = q.stands; second = i.second; second_stands = i.second_stands; cell = i.cell; on = i.on };
               room = h.room;
             }
@@ -319,7 +319,7 @@ module _ {xs : List ℤ} {numbers a b : List ℕ} {t : Turn} {path : List ℤ} {
       below_in =
           let i = h.here in
           record {
-            ground = h.ground;
+            grounds = h.grounds;
             here = record { operation = i.operation; op_is = i.op_is; turn = some end_in.met; turn_is = end_in.met_is; tree = i.second; stands = below_stands i.second_stands; second = i.second; second_stands = i.second_stands; cell = i.cell; on = i.on };
             room = h.room;
           }

@@ -129,13 +129,13 @@ module _ {xs : List ℤ} {numbers a b : List ℕ} {m : ℕ} {path : List ℤ} {d
   module _ {p : struct.Plane} (e : plane p ≡ plane_at xs (plane_number numbers (offset m) (rows_of m a b) r)) where
     pub classify_in : ClassifyIn (plane p) path depth first second
     classify_in = record {
-      lawful = subst Lawful (sym (e ∙ here_row.row.plane)) (h.ground.lawful here_row.plane here_row.row.member);
-      few = omega (arith, on_few h.on, h.ground.few);
-      room = omega (arith, on_few h.on, h.ground.few, h.ground.path_room);
+      lawful = subst Lawful (sym (e ∙ here_row.row.plane)) (h.grounds.lawful here_row.plane here_row.row.member);
+      few = omega (arith, on_few h.on, h.grounds.few);
+      room = omega (arith, on_few h.on, h.grounds.few, h.grounds.path_room);
       cell = h.cell;
       on = on_map (λ p q. q.lawful) h.on;
-      first_room = h.ground.first_room;
-      second_room = h.ground.second_room;
+      first_room = h.grounds.first_room;
+      second_room = h.grounds.second_room;
     }
 
     -- what the class says of the row's plane

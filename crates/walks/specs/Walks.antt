@@ -64,7 +64,7 @@ pub record Here (xs : List ℤ) (numbers a b : List ℕ) (t : Turn) (path : List
   pub on : OnPath (In xs) path depth cell
 
 pub record SideIn (xs : List ℤ) (numbers a b : List ℕ) (t : Turn) (path : List ℤ) (depth : ℕ) (first second : List ℤ) (out : List ℕ) (next c : ℕ) : Type 0 where
-  pub ground : Ground xs path first second
+  pub grounds : Ground xs path first second
   pub here : Here xs numbers a b t path depth c
   pub room : Room out next
 
@@ -82,7 +82,7 @@ pub record PlaneOfIn (xs : List ℤ) (numbers ns : List ℕ) (o r : ℕ) : Type 
 
 -- a row, in the cell of a path
 pub record StepIn (xs : List ℤ) (numbers a b : List ℕ) (m : ℕ) (path : List ℤ) (depth : ℕ) (first second : List ℤ) (r : ℕ) : Type 0 where
-  pub ground : Ground xs path first second
+  pub grounds : Ground xs path first second
   pub cell : List Plane
   pub on : OnPath (In xs) path depth cell
   pub tree : Tree

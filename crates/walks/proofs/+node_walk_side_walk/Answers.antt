@@ -32,7 +32,7 @@ pub node_walk-side_walk-w-requires : goal.node_walk-side_walk-w-requires
 node_walk-side_walk-w-requires t c =
     let front : Pushed c.requires true c.args.path.now c.push.new.path = record { half_space = c.row-p.result; is = c.row-p.ensures ∙ ap (plane_at c.args.planes.now) c.number_of-n.ensures; before = λ i l. refl; long = refl; table = c.push.ensures; long' = c.push.auto.path } in
     (
-  subst (λ j. base c.args.t.mark + rank c.field-f.result < j) c.requires.0 (omega (arith, rank_below c.field-f.result c.args.row (front_falls (node_row c.requires).row c.field-f.ensures))),
+  subst (λ j. base c.args.t.mark + rank c.field-f.result < j) c.decreases (omega (arith, rank_below c.field-f.result c.args.row (front_falls (node_row c.requires).row c.field-f.ensures))),
   side_in c.requires true front c.field-f.ensures refl refl c.requires.side.room,
 )
 
@@ -60,7 +60,7 @@ node_walk-side_walk-v-requires t c =
     let front : Pushed c.requires true c.args.path.now c.push.new.path = record { half_space = c.row-p.result; is = c.row-p.ensures ∙ ap (plane_at c.args.planes.now) c.number_of-n.ensures; before = λ i l. refl; long = refl; table = c.push.ensures; long' = c.push.auto.path } in
     let back : Pushed c.requires false c.side_walk-w.new.path c.push-2.new.path = record { half_space = c.opposite.result; is = c.opposite.ensures ∙ ap flip (c.row-p.ensures ∙ ap (plane_at c.args.planes.now) c.number_of-n.ensures); before = side_kept c.requires true front c.field-f.ensures c.side_walk-w.ensures; long = c.side_walk-w.auto.path ∙ c.push.auto.path; table = c.push-2.ensures; long' = c.push-2.auto.path } in
     (
-  subst (λ j. base c.args.t.mark + rank c.field-g.result < j) c.requires.0 (omega (arith, rank_below c.field-g.result c.args.row (back_falls (node_row c.requires).row c.field-g.ensures))),
+  subst (λ j. base c.args.t.mark + rank c.field-g.result < j) c.decreases (omega (arith, rank_below c.field-g.result c.args.row (back_falls (node_row c.requires).row c.field-g.ensures))),
   side_in c.requires false back c.field-g.ensures c.side_walk-w.auto.first c.side_walk-w.auto.second (room_same c.side_walk-w.auto.out (c.side_walk-w.ensures.placed c.in-Done.front c.in-Done.n1 c.in-Done.is)),
 )
 
@@ -84,13 +84,13 @@ side_walk-step-requires t c = step_in c.requires c.if-code-lt-OUT.true
 
 pub side_walk-node_walk-requires : goal.side_walk-node_walk-requires
 side_walk-node_walk-requires t c = (
-  subst (λ j. base c.args.t.mark + (c.args.code * 2 + 1) < j) c.requires.0 (omega (arith, rank_row c.args.code c.if-code-lt-OUT.true)),
+  subst (λ j. base c.args.t.mark + (c.args.code * 2 + 1) < j) c.decreases (omega (arith, rank_row c.args.code c.if-code-lt-OUT.true)),
   cut_in c.requires c.if-code-lt-OUT.true c.step.ensures c.in-Cut.is c.step.auto.first c.step.auto.second,
 )
 
 pub side_walk-side_walk-requires : goal.side_walk-side_walk-requires
 side_walk-side_walk-requires t c = (
-  subst (λ j. base c.args.t.mark + rank c.in-Code.child < j) c.requires.0 (omega (arith, rank_under c.in-Code.child c.args.code c.if-code-lt-OUT.true (c.step.ensures.falls c.in-Code.child c.in-Code.is))),
+  subst (λ j. base c.args.t.mark + rank c.in-Code.child < j) c.decreases (omega (arith, rank_under c.in-Code.child c.args.code c.if-code-lt-OUT.true (c.step.ensures.falls c.in-Code.child c.in-Code.is))),
   code_in c.requires c.if-code-lt-OUT.true c.step.ensures c.in-Code.is c.step.auto.first c.step.auto.second,
 )
 
@@ -105,7 +105,7 @@ side_walk-ended-requires t c = end_in c.requires c.if-code-lt-OUT.false
 
 pub side_walk-side_walk-requires-in-WalkB : goal.side_walk-side_walk-requires-in-WalkB
 side_walk-side_walk-requires-in-WalkB t c = (
-  subst (λ j. base c.args.code + rank c.args.t.root < j) c.requires.0 (omega (arith, base_a c.args.t.mark (in_a c.requires c.if-code-lt-OUT.false c.in-WalkB.is c.ended.ensures), base_b c.args.code c.if-code-lt-OUT.false, rank_below c.args.t.root 1000 (root_low c.requires c.if-code-lt-OUT.false c.in-WalkB.is c.ended.ensures))),
+  subst (λ j. base c.args.code + rank c.args.t.root < j) c.decreases (omega (arith, base_a c.args.t.mark (in_a c.requires c.if-code-lt-OUT.false c.in-WalkB.is c.ended.ensures), base_b c.args.code c.if-code-lt-OUT.false, rank_below c.args.t.root 1000 (root_low c.requires c.if-code-lt-OUT.false c.in-WalkB.is c.ended.ensures))),
   below_in c.requires c.if-code-lt-OUT.false c.in-WalkB.is c.ended.ensures,
 )
 
