@@ -32,7 +32,6 @@ use Rattle.cells.specs.Paths.{OnPath, PathIn, Witness}
 use Rattle.cells.proofs.Paths.{on_rows, on_kept, on_links, links_same, on_same, pushed_before, on_push}
 use Rattle.walks.specs.declared.Turn.{Turn}
 use Rattle.walks.specs.declared.Ended.{Ended}
-use Rattle.walks.specs.declared.Ended.TheVariants as Ended
 use Rattle.walks.specs.declared.Reached as Reached
 use Rattle.walks.specs.declared.Walked.{Walked as Answer}
 use Rattle.walks.specs.declared.Walked.TheVariants.{Done, Refused}

@@ -12,7 +12,6 @@ use Rattle.scope.specs.Solids.{Mark, IN, OUT, mark, number}
 use Rattle.scope.specs.Cells.{Operation, union, intersection, difference, operate}
 use Rattle.scope.specs.Text.{operation_code}
 use Rattle.walks.specs.declared.Ended.{Ended}
-use Rattle.walks.specs.declared.Ended.TheVariants as Ended
 use Rattle.walks.specs.Marks.{turn_code, MarkIn, MarkIs, EndIn, EndsAs, in_b, alone, asks, EndIs}
 
 -- ---- the table

@@ -26,7 +26,6 @@ use Rattle.planes.specs.declared.Plane as struct
 use Rattle.planes.specs.declared.Meeting.{Meeting}
 use Rattle.tables.specs.Rows.{plane_at}
 use Rattle.cells.specs.declared.Classified.{Classified}
-use Rattle.cells.specs.declared.Classified.TheVariants as Classified
 use Rattle.cells.specs.Paths.{OnPath, at_box, below, witness_at, Witness, Classes, is_cut, is_front, is_behind, ClassifiedIn, ClassifyIn}
 use Rattle.cells.proofs.Paths.{on_map, on_kept}
 use Rattle.walks.specs.declared.Reached as Reached

@@ -8,7 +8,6 @@ use Rattle.scope.specs.Solids.{Mark, mark, number}
 use Rattle.scope.specs.Cells.{Operation, operate}
 use Rattle.scope.specs.Text.{operation_code}
 use Rattle.walks.specs.declared.Ended.{Ended}
-use Rattle.walks.specs.declared.Ended.TheVariants as Ended
 
 abbrev pub turn_code : Option Mark → ℕ
 turn_code none = 0

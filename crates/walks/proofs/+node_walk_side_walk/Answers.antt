@@ -1,5 +1,4 @@
 -- `walks::node_walk` and `walks::side_walk` meet their contracts, together: each calls the other. The measure is proofs/Rank's; the rest is proofs/Cycle. Assumes nothing.
-use borrow.Author.Rules.{rules}
 use mathlib.Core.Path.{refl, ap, subst, ◌∙◌}
 use mathlib.Core.Bool.{true, false}
 use native.Mathlib.Omega.{arith}
@@ -10,7 +9,7 @@ use Rattle.walks.proofs.Rank.{rank, rank_row, rank_below, rank_under, base, base
 use Rattle.walks.proofs.Emits.{room_same}
 use Rattle.walks.proofs.Ways.{plane_of_in, field_in}
 use Rattle.walks.proofs.Cycle.{node_row, node_deep, push_asked, front_falls, back_falls, plane_ranged, Pushed, side_in, side_kept, node_front, node_back, node_closed, step_in, cut_in, code_in, side_code, end_in, side_mark, in_a, below_in, root_low, side_b}
-use Prim.Native.Nat.{ℕ, ◌+◌, ◌*◌, ◌<◌}
+use Prim.Native.Nat.{◌+◌, ◌*◌, ◌<◌}
 use Rattle.walks.proofs.+node_walk_side_walk.Goals as goal
 
 pub node_walk-number_of-n-requires : goal.node_walk-number_of-n-requires
@@ -30,11 +29,10 @@ node_walk-overflow_add-depth t c = record { fits = omega (arith, node_deep c.req
 
 pub node_walk-side_walk-w-requires : goal.node_walk-side_walk-w-requires
 node_walk-side_walk-w-requires t c =
-    let front : Pushed c.requires true c.args.path.now c.push.new.path = record { half_space = c.row-p.result; is = c.row-p.ensures ∙ ap (plane_at c.args.planes.now) c.number_of-n.ensures; before = λ i l. refl; long = refl; table = c.push.ensures; long' = c.push.auto.path } in
-    (
-  subst (λ j. base c.args.t.mark + rank c.field-f.result < j) c.decreases (omega (arith, rank_below c.field-f.result c.args.row (front_falls (node_row c.requires).row c.field-f.ensures))),
-  side_in c.requires true front c.field-f.ensures refl refl c.requires.side.room,
-)
+    let front : Pushed c.requires true c.args.path.now c.push.new.path = record { half_space = c.row-p.result; is = c.row-p.ensures ∙ ap (plane_at c.args.planes.now) c.number_of-n.ensures; before = λ i l. refl; long = refl; table = c.push.ensures; long' = c.push.auto.path } in (
+      subst (λ j. base c.args.t.mark + rank c.field-f.result < j) c.decreases (omega (arith, rank_below c.field-f.result c.args.row (front_falls (node_row c.requires).row c.field-f.ensures))),
+      side_in c.requires true front c.field-f.ensures refl refl c.requires.side.room,
+    )
 
 pub node_walk-returns-in_default : goal.node_walk-returns-in_default
 node_walk-returns-in_default t c =
@@ -58,11 +56,10 @@ node_walk-overflow_add-depth-2 t c = record { fits = omega (arith, node_deep c.r
 pub node_walk-side_walk-v-requires : goal.node_walk-side_walk-v-requires
 node_walk-side_walk-v-requires t c =
     let front : Pushed c.requires true c.args.path.now c.push.new.path = record { half_space = c.row-p.result; is = c.row-p.ensures ∙ ap (plane_at c.args.planes.now) c.number_of-n.ensures; before = λ i l. refl; long = refl; table = c.push.ensures; long' = c.push.auto.path } in
-    let back : Pushed c.requires false c.side_walk-w.new.path c.push-2.new.path = record { half_space = c.opposite.result; is = c.opposite.ensures ∙ ap flip (c.row-p.ensures ∙ ap (plane_at c.args.planes.now) c.number_of-n.ensures); before = side_kept c.requires true front c.field-f.ensures c.side_walk-w.ensures; long = c.side_walk-w.auto.path ∙ c.push.auto.path; table = c.push-2.ensures; long' = c.push-2.auto.path } in
-    (
-  subst (λ j. base c.args.t.mark + rank c.field-g.result < j) c.decreases (omega (arith, rank_below c.field-g.result c.args.row (back_falls (node_row c.requires).row c.field-g.ensures))),
-  side_in c.requires false back c.field-g.ensures c.side_walk-w.auto.first c.side_walk-w.auto.second (room_same c.side_walk-w.auto.out (c.side_walk-w.ensures.placed c.in-Done.front c.in-Done.n1 c.in-Done.is)),
-)
+    let back : Pushed c.requires false c.side_walk-w.new.path c.push-2.new.path = record { half_space = c.opposite.result; is = c.opposite.ensures ∙ ap flip (c.row-p.ensures ∙ ap (plane_at c.args.planes.now) c.number_of-n.ensures); before = side_kept c.requires true front c.field-f.ensures c.side_walk-w.ensures; long = c.side_walk-w.auto.path ∙ c.push.auto.path; table = c.push-2.ensures; long' = c.push-2.auto.path } in (
+      subst (λ j. base c.args.t.mark + rank c.field-g.result < j) c.decreases (omega (arith, rank_below c.field-g.result c.args.row (back_falls (node_row c.requires).row c.field-g.ensures))),
+      side_in c.requires false back c.field-g.ensures c.side_walk-w.auto.first c.side_walk-w.auto.second (room_same c.side_walk-w.auto.out (c.side_walk-w.ensures.placed c.in-Done.front c.in-Done.n1 c.in-Done.is)),
+    )
 
 pub node_walk-returns-in_default-v : goal.node_walk-returns-in_default-v
 node_walk-returns-in_default-v t c =

@@ -1,7 +1,6 @@
 -- `walks::plane_of` meets its contract. Assumes nothing.
 use mathlib.Core.Path.{ap, ◌∙◌}
 use Rattle.tables.specs.Rows.{plane_at}
-use borrow.Author.Rules.{rules}
 use Rattle.walks.proofs.plane_of.Goals as goal
 
 pub returns : goal.returns

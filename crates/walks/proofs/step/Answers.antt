@@ -1,7 +1,6 @@
 -- `walks::step` meets its contract (proofs/Ways). Assumes nothing.
 use lib.Dec.{lit<}
 use Rattle.walks.proofs.Ways.{here_row, plane_of_in, field_in, classify_in, step_cut, step_fore, step_aft}
-use borrow.Author.Rules.{rules}
 use Rattle.walks.proofs.step.Goals as goal
 
 pub plane_of-p-requires : goal.plane_of-p-requires

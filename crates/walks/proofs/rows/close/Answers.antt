@@ -1,6 +1,5 @@
 -- `walks::rows::close` meets its contract. Assumes nothing.
 use Rattle.walks.proofs.RowsRead.{closed_mark, closed_row}
-use borrow.Author.Rules.{rules}
 use Rattle.walks.proofs.rows.close.Goals as goal
 
 pub returns-then-same_mark : goal.returns-then-same_mark

@@ -2,7 +2,6 @@
 use native.Mathlib.Omega.{arith}
 use lib.ListN.{length-set}
 use Rattle.walks.proofs.RowsRead.{put_over, put_three}
-use borrow.Author.Rules.{rules}
 use Rattle.walks.proofs.rows.emit.Goals as goal
 
 pub returns-then-out-next : goal.returns-then-out-next

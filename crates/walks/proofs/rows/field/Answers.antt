@@ -4,7 +4,6 @@ use Prim.Native.Nat.{◌+◌, ◌*◌}
 use native.Mathlib.Omega.{arith}
 use lib.ListN.{length, get_or}
 use Rattle.walks.proofs.RowsRead.{in_a, in_b}
-use borrow.Author.Rules.{rules}
 use Rattle.walks.proofs.rows.field.Goals as goal
 
 pub bounds-a-at : goal.bounds-a-at

@@ -2,7 +2,6 @@
 use native.Mathlib.Omega.{arith}
 use Rattle.walks.specs.Standing.{rows_of}
 use Rattle.walks.proofs.RowsRead.{offset_a, offset_b, first_entry, number_a, number_b}
-use borrow.Author.Rules.{rules}
 use Rattle.walks.proofs.rows.number_of.Goals as goal
 
 pub bounds-numbers-n : goal.bounds-numbers-n

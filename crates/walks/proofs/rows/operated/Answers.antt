@@ -1,6 +1,5 @@
 -- `walks::rows::operated` meets its contract. The table is right at each of its twelve entries (proofs/Marks). Assumes nothing.
 use Rattle.walks.proofs.Marks.{index_in, operated_is}
-use borrow.Author.Rules.{rules}
 use Rattle.walks.proofs.rows.operated.Goals as goal
 
 pub overflow_sub-result : goal.overflow_sub-result
