@@ -1,0 +1,15 @@
+use mathlib.Core.Path.{◌≡◌, refl, sym, subst, ◌∙◌}
+use Prim.Native.Nat.{◌+◌, ◌-◌, ◌≤◌}
+use native.Mathlib.Omega.{arith}
+use lib.ListN.{length}
+use Rattle.lines.specs.Lines.{PlaneLine}
+use Rattle.lines.specs.Reading.{PlanesSoFar, PlanesTold}
+use Rattle.lines.proofs.Planes.{planes_start, planes_next, planes_refused}
+use borrow.Author.Rules.{rules}
+use Rattle.lines.proofs.reading.read_planes.Given as goal
+
+abbrev pub invariant-loop-i : goal.invariant-loop-i
+invariant-loop-i l = (l.i ≤ l.n) × (length l.planes ≡ length l.initial.planes) × PlanesSoFar l.text l.initial.at l.l l.n l.planes l.i l.at
+
+abbrev pub decreases-loop-i : goal.decreases-loop-i
+decreases-loop-i l = l.n - l.i
