@@ -1,7 +1,6 @@
 -- `lines::reading::on_line` meets its contract. Assumes nothing.
 use mathlib.Core.Path.{sym, ap}
 use Rattle.lines.specs.Lines.{on}
-use borrow.Author.Rules.{rules}
 use Rattle.lines.proofs.reading.on_line.Goals as goal
 
 pub returns-in-Refused : goal.returns-in-Refused

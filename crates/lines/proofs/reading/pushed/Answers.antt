@@ -1,7 +1,6 @@
 -- `lines::reading::pushed` meets its contract. Assumes nothing.
 use mathlib.Core.Path.{sym, ap}
 use Rattle.lines.specs.Lines.{pushed_on}
-use borrow.Author.Rules.{rules}
 use Rattle.lines.proofs.reading.pushed.Goals as goal
 
 pub returns-in-Refused : goal.returns-in-Refused

@@ -1,6 +1,5 @@
 -- `lines::reading::read_end` meets its contract (proofs/Glue). Assumes nothing.
 use Rattle.lines.proofs.Glue.{end_refused, end_judged_line}
-use borrow.Author.Rules.{rules}
 use Rattle.lines.proofs.reading.read_end.Goals as goal
 
 pub returns-in-Refused : goal.returns-in-Refused

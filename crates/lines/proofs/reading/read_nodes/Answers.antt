@@ -1,15 +1,11 @@
 -- `lines::reading::read_nodes` meets its contract. The invariant: i nodes are taken, with at most i trees and at most i rows in them. The measure is what is left of m. Assumes nothing.
 use mathlib.Core.Path.{◌≡◌, refl, sym, subst, ◌∙◌}
-use mathlib.Core.List.{List}
-use Prim.Native.Nat.{◌+◌, ◌-◌, ◌≤◌}
+use Prim.Native.Nat.{◌+◌}
 use native.Mathlib.Omega.{arith}
-use lib.ListN.{length}
-use Rattle.scope.specs.Planes.{Plane}
 use Rattle.tables.specs.Work.{stack, total}
 use Rattle.lines.specs.Lines.{NodeLine}
 use Rattle.lines.specs.Reading.{NodesOver, NodesTold}
 use Rattle.lines.proofs.Nodes.{no_marks, node_inside, nodes_start, nodes_next, nodes_refused}
-use borrow.Author.Rules.{rules}
 use Rattle.lines.proofs.reading.read_nodes.Goals as goal
 
 pub loop-i-init : goal.loop-i-init

@@ -1,14 +1,10 @@
-use mathlib.Core.Path.{◌≡◌, refl, sym, subst, ◌∙◌}
+use mathlib.Core.Path.{◌≡◌}
 use mathlib.Core.List.{List}
-use Prim.Native.Nat.{◌+◌, ◌-◌, ◌≤◌}
-use native.Mathlib.Omega.{arith}
+use Prim.Native.Nat.{◌-◌, ◌≤◌}
 use lib.ListN.{length}
 use Rattle.scope.specs.Planes.{Plane}
 use Rattle.tables.specs.Work.{stack, total}
-use Rattle.lines.specs.Lines.{NodeLine}
-use Rattle.lines.specs.Reading.{NodesOver, NodesTold}
-use Rattle.lines.proofs.Nodes.{no_marks, node_inside, nodes_start, nodes_next, nodes_refused}
-use borrow.Author.Rules.{rules}
+use Rattle.lines.specs.Reading.{NodesOver}
 use Rattle.lines.proofs.reading.read_nodes.Given as goal
 
 abbrev pub invariant-loop-i : goal.invariant-loop-i

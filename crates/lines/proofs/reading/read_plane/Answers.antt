@@ -1,6 +1,5 @@
 -- `lines::reading::read_plane` meets its contract (proofs/Glue). Assumes nothing.
 use Rattle.lines.proofs.Glue.{plane_refused, plane_judged_line}
-use borrow.Author.Rules.{rules}
 use Rattle.lines.proofs.reading.read_plane.Goals as goal
 
 pub returns-in-Refused : goal.returns-in-Refused

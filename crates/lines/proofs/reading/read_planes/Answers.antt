@@ -1,12 +1,10 @@
 -- `lines::reading::read_planes` meets its contract. The invariant: i planes are taken. The measure is what is left of n. Assumes nothing.
 use mathlib.Core.Path.{◌≡◌, refl, sym, subst, ◌∙◌}
-use Prim.Native.Nat.{◌+◌, ◌-◌, ◌≤◌}
+use Prim.Native.Nat.{◌+◌}
 use native.Mathlib.Omega.{arith}
-use lib.ListN.{length}
 use Rattle.lines.specs.Lines.{PlaneLine}
 use Rattle.lines.specs.Reading.{PlanesSoFar, PlanesTold}
 use Rattle.lines.proofs.Planes.{planes_start, planes_next, planes_refused}
-use borrow.Author.Rules.{rules}
 use Rattle.lines.proofs.reading.read_planes.Goals as goal
 
 pub loop-i-init : goal.loop-i-init

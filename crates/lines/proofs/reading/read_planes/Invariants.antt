@@ -1,11 +1,7 @@
-use mathlib.Core.Path.{◌≡◌, refl, sym, subst, ◌∙◌}
-use Prim.Native.Nat.{◌+◌, ◌-◌, ◌≤◌}
-use native.Mathlib.Omega.{arith}
+use mathlib.Core.Path.{◌≡◌}
+use Prim.Native.Nat.{◌-◌, ◌≤◌}
 use lib.ListN.{length}
-use Rattle.lines.specs.Lines.{PlaneLine}
-use Rattle.lines.specs.Reading.{PlanesSoFar, PlanesTold}
-use Rattle.lines.proofs.Planes.{planes_start, planes_next, planes_refused}
-use borrow.Author.Rules.{rules}
+use Rattle.lines.specs.Reading.{PlanesSoFar}
 use Rattle.lines.proofs.reading.read_planes.Given as goal
 
 abbrev pub invariant-loop-i : goal.invariant-loop-i

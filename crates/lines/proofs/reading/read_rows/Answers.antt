@@ -2,13 +2,8 @@
 use mathlib.Core.Path.{sym, subst}
 use Prim.Native.Nat.{◌+◌}
 use native.Mathlib.Omega.{arith}
-use Rattle.lines.specs.declared.LinesRead as LinesRead
-use Rattle.lines.specs.Reading.{PlanesSoFar, PlanesTold, NodesTold, RowsTold}
+use Rattle.lines.specs.Reading.{PlanesTold, NodesTold, RowsTold}
 use Rattle.lines.proofs.Whole.{rows_no_node, rows_end}
-use borrow.Author.Rules.{rules}
-use Rattle.lines.proofs.reading.read_rows.Lts as lts
-use Rattle.lines.proofs.reading.read_rows.Tie as tie
-use Rattle.lines.proofs.reading.read_rows.Reads as reads
 use Rattle.lines.proofs.reading.read_rows.Goals as goal
 
 pub returns-in_default : goal.returns-in_default
@@ -18,15 +13,10 @@ returns-in_default c =
     subst (RowsTold c.args.text.now c.args.c.at c.args.l c.args.s p.new.planes c.args.nodes.now) (sym e)
     (λ a. subst (PlanesTold c.args.text.now c.args.c.at c.args.l c.args.s.planes p.new.planes) e p.ensures a c.args.s.nodes c.args.s.root)
 
--- the planes are read
-planed : (c : lts.After-p tie.the-claims reads.Pre reads.Post) → PlanesSoFar c.args.text.now c.args.c.at c.args.l c.args.s.planes c.read_planes-p.new.planes c.args.s.planes c.p-1.given.0.0.at
-planed c = let a = c.args in subst (PlanesTold a.text.now a.c.at a.l a.s.planes c.read_planes-p.new.planes) c.p-1.given.1 c.read_planes-p.ensures
-
 pub read_nodes-q-requires : goal.read_nodes-q-requires
 read_nodes-q-requires c =
-    let p = planed c.before.before.before.before in
     record {
-      inside = p.inside;
+      inside = c.in-At.ensures.inside;
       line = omega (arith, c.requires.line, c.requires.few_planes);
       few_planes = c.requires.few_planes;
       few = c.requires.few_nodes;
@@ -42,14 +32,10 @@ returns-in_default-q c =
     let e = c.in_default-q.is in
     let q = c.read_nodes-q in
     subst (RowsTold a.text.now a.c.at a.l a.s c.read_planes-p.new.planes q.new.nodes) (sym e)
-    (rows_no_node a.l a.s c.requires.few_planes (planed c.before.before.before.before.before.before.before.before.before) q.new.nodes q.new.work (subst (NodesTold a.text.now c.in-At.after.at (a.l + a.s.planes) a.s.planes a.s.nodes q.new.nodes q.new.work) e q.ensures))
-
--- the nodes are read
-noded : (c : lts.After-q tie.the-claims reads.Pre reads.Post) → NodesTold c.args.text.now c.p-1.given.0.0.at (c.args.l + c.args.s.planes) c.args.s.planes c.args.s.nodes c.read_nodes-q.new.nodes c.read_nodes-q.new.work (LinesRead.TheVariants.At c.q-1.given.0.0 c.q-1.given.0.1.0)
-noded c = let a = c.args in subst (NodesTold a.text.now c.p-1.given.0.0.at (a.l + a.s.planes) a.s.planes a.s.nodes c.read_nodes-q.new.nodes c.read_nodes-q.new.work) c.q-1.given.1 c.read_nodes-q.ensures
+    (rows_no_node a.l a.s c.requires.few_planes c.in-At.ensures q.new.nodes q.new.work (subst (NodesTold a.text.now c.in-At.after.at (a.l + a.s.planes) a.s.planes a.s.nodes q.new.nodes q.new.work) e q.ensures))
 
 pub read_end-requires : goal.read_end-requires
-read_end-requires c = ((noded c.before.before.before).0, omega (arith, c.requires.few_planes, c.requires.work_room, c.read_nodes-q.auto.work))
+read_end-requires c = (c.in-At-q.ensures.0, omega (arith, c.requires.few_planes, c.requires.work_room, c.read_nodes-q.auto.work))
 
 pub returns : goal.returns
-returns c = let p = planed c.before.before.before.before.before.before.before.before.before.before.before.before.before.before in rows_end c.args.l c.args.s c.requires.few_planes p ((noded c.before.before.before.before).1 p.planes p.count) c.read_end.ensures
+returns c = let p = c.in-At.ensures in rows_end c.args.l c.args.s c.requires.few_planes p (c.in-At-q.ensures.1 p.planes p.count) c.read_end.ensures

@@ -1,7 +1,6 @@
 -- `lines::reading::whole` meets its contract. Assumes nothing.
 use mathlib.Core.Path.{sym, ap}
 use Rattle.lines.specs.Reading.{whole_of}
-use borrow.Author.Rules.{rules}
 use Rattle.lines.proofs.reading.whole.Goals as goal
 
 pub returns-in-Refused : goal.returns-in-Refused

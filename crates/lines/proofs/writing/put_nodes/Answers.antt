@@ -1,12 +1,10 @@
 -- `lines::writing::put_nodes` meets its contract. The invariant: the lines of i nodes are written. The measure is what is left of m. Assumes nothing.
 use mathlib.Core.Path.{◌≡◌, refl, subst, ◌∙◌}
-use Prim.Native.Nat.{◌-◌, ◌*◌, ◌≤◌}
+use Prim.Native.Nat.{◌*◌}
 use native.Mathlib.Omega.{arith}
-use lib.ListN.{length}
 use Rattle.frames.specs.Promises.{Wrote}
 use Rattle.lines.specs.Writing.{node_lines}
 use Rattle.lines.proofs.TextLines.{nodes_none, nodes_wrote}
-use borrow.Author.Rules.{rules}
 use Rattle.lines.proofs.writing.put_nodes.Goals as goal
 
 pub loop-i-init : goal.loop-i-init

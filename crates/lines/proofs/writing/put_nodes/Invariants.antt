@@ -1,11 +1,8 @@
-use mathlib.Core.Path.{◌≡◌, refl, subst, ◌∙◌}
+use mathlib.Core.Path.{◌≡◌}
 use Prim.Native.Nat.{◌-◌, ◌*◌, ◌≤◌}
-use native.Mathlib.Omega.{arith}
 use lib.ListN.{length}
 use Rattle.frames.specs.Promises.{Wrote}
 use Rattle.lines.specs.Writing.{node_lines}
-use Rattle.lines.proofs.TextLines.{nodes_none, nodes_wrote}
-use borrow.Author.Rules.{rules}
 use Rattle.lines.proofs.writing.put_nodes.Given as goal
 
 abbrev pub invariant-loop-i : goal.invariant-loop-i

@@ -1,14 +1,12 @@
 -- `lines::writing::put_planes` meets its contract. The invariant: the lines of i planes are written. The measure is what is left of n. Assumes nothing.
 use mathlib.Core.Path.{◌≡◌, refl, sym, subst, ◌∙◌}
-use Prim.Native.Nat.{◌-◌, ◌*◌, ◌≤◌}
+use Prim.Native.Nat.{◌*◌}
 use native.Mathlib.Omega.{arith}
-use lib.ListN.{length}
 use Rattle.scope.specs.Text.{line, bytes, plane}
 use Rattle.theory.specs.Text.Frames.{Fits}
 use Rattle.frames.specs.Promises.{Wrote}
 use Rattle.lines.specs.Writing.{plane_lines}
 use Rattle.lines.proofs.TextLines.{planes_none, planes_wrote}
-use borrow.Author.Rules.{rules}
 use Rattle.lines.proofs.writing.put_planes.Goals as goal
 
 pub loop-i-init : goal.loop-i-init

@@ -1,13 +1,8 @@
-use mathlib.Core.Path.{◌≡◌, refl, sym, subst, ◌∙◌}
+use mathlib.Core.Path.{◌≡◌}
 use Prim.Native.Nat.{◌-◌, ◌*◌, ◌≤◌}
-use native.Mathlib.Omega.{arith}
 use lib.ListN.{length}
-use Rattle.scope.specs.Text.{line, bytes, plane}
-use Rattle.theory.specs.Text.Frames.{Fits}
 use Rattle.frames.specs.Promises.{Wrote}
 use Rattle.lines.specs.Writing.{plane_lines}
-use Rattle.lines.proofs.TextLines.{planes_none, planes_wrote}
-use borrow.Author.Rules.{rules}
 use Rattle.lines.proofs.writing.put_planes.Given as goal
 
 abbrev pub invariant-loop-i : goal.invariant-loop-i

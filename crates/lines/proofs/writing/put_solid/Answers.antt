@@ -1,7 +1,6 @@
 -- `lines::writing::put_solid` meets its contract: its four parts, one after the other, are the text (proofs/TextLines). Assumes nothing.
 use native.Mathlib.Omega.{arith}
 use Rattle.lines.proofs.TextLines.{wrote_more, wrote_solid}
-use borrow.Author.Rules.{rules}
 use Rattle.lines.proofs.writing.put_solid.Goals as goal
 
 pub put_head-at-requires : goal.put_head-at-requires
