@@ -12,9 +12,8 @@ use lib.IntN.{ℤ, pos}
 use lib.ListN.{length, drop, replicate}
 use borrow.Author.Tests.{le-leb, lt-leb}
 use Rattle.scope.specs.Limits.{stated, most_text}
-use Rattle.scope.specs.Solids.{tables}
 use Rattle.scope.specs.Text.{frames}
-use Rattle.scope.specs.Judging.{Rooms, fresh, read, refused, read_solid, refusal, finish, judge}
+use Rattle.scope.specs.Judging.{Rooms, fresh, refused, read_solid, refusal, finish, judge}
 use Rattle.scope.specs.Answers.{given, solid_then, plane_numbers, node_numbers, filled, left, read_answer}
 use Rattle.scope.specs.Answers as answers
 use Rattle.frames.specs.Promises.{Follows}
