@@ -1,14 +1,11 @@
 -- `lists::join` meets its contract. The invariant: k planes are joined, of i of A and j of B. The measure is how many of A and of B are left. Assumes nothing.
-use borrow.Author.Rules.{rules}
-use borrow.Author.Tests.{ltb-true, ltb-false}
-use mathlib.Core.Path.{◌≡◌, refl, ◌∙◌}
-use mathlib.Core.Logic.{⊎_elim}
-use Prim.Native.Nat.{◌+◌, ◌-◌, ◌/◌, ◌<◌}
+use mathlib.Core.Path.{refl, ◌∙◌}
+use Prim.Native.Nat.{◌+◌, ◌/◌, ◌<◌}
 use native.Mathlib.Omega.{arith}
 use lib.ListN.{length}
-use Rattle.lists.specs.Steps.{Joining}
 use Rattle.lists.proofs.Joins.{none_joined, list_few, list_rising, all_joined}
 use Rattle.lists.proofs.join.Goals as goal
+use Rattle.lists.proofs.join.Goals.{then-i-n, else-i-n+then-j-m}
 
 pub loop-i-init : goal.loop-i-init
 loop-i-init c = (refl, refl, none_joined c.args.a.now c.args.b.now c.args.joined.now c.args.numbers.now)
@@ -18,7 +15,7 @@ take-t-requires c =
     let l = c.loop-i in
     let q = c.requires in
     let j = l.invariant.2 in
-    let more : l.i + l.j < length c.args.a.now / 4 + length c.args.b.now / 4 = ⊎_elim (λ w. omega (arith, w.taken, j.first.inside, j.second.inside)) (λ w. omega (arith, ltb-true l.j (length c.args.b.now / 4) w.1.taken, j.first.inside, j.second.inside)) c.if-i-n.branch in
+    let more : l.i + l.j < length c.args.a.now / 4 + length c.args.b.now / 4 = elim c.if-i-n.branch [ then-i-n w ↦ omega (arith, w.if-i-n.true, j.first.inside, j.second.inside) | else-i-n+then-j-m w ↦ omega (arith, w.if-j-m.true, j.first.inside, j.second.inside) ] in
     record {
       so_far = j;
       more = more;
@@ -42,4 +39,4 @@ loop-i-preserved c = (c.take-t.auto.joined ∙ c.loop-i.invariant.0, c.take-t.au
 pub returns : goal.returns
 returns c =
     let l = c.loop-i in
-    all_joined c.args.a.now c.args.b.now l.joined l.numbers l.i l.j l.k (omega (arith, c.if-i-n.false)) (ltb-false l.j (length c.args.b.now / 4) c.if-j-m.false-raw) l.invariant.2
+    all_joined c.args.a.now c.args.b.now l.joined l.numbers l.i l.j l.k (omega (arith, c.if-i-n.false)) (omega (arith, c.if-j-m.false)) l.invariant.2

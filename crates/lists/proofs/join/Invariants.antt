@@ -1,12 +1,7 @@
-use borrow.Author.Rules.{rules}
-use borrow.Author.Tests.{ltb-true, ltb-false}
-use mathlib.Core.Path.{◌≡◌, refl, ◌∙◌}
-use mathlib.Core.Logic.{⊎_elim}
-use Prim.Native.Nat.{◌+◌, ◌-◌, ◌/◌, ◌<◌}
-use native.Mathlib.Omega.{arith}
+use mathlib.Core.Path.{◌≡◌}
+use Prim.Native.Nat.{◌+◌, ◌-◌, ◌/◌}
 use lib.ListN.{length}
 use Rattle.lists.specs.Steps.{Joining}
-use Rattle.lists.proofs.Joins.{none_joined, list_few, list_rising, all_joined}
 use Rattle.lists.proofs.join.Given as goal
 
 abbrev pub invariant-loop-i : goal.invariant-loop-i

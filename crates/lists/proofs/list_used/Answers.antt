@@ -1,5 +1,4 @@
 -- `lists::list_used` meets its contract. Assumes nothing.
-use borrow.Author.Rules.{rules}
 use mathlib.Core.Path.{◌∙◌}
 use native.Mathlib.Omega.{arith}
 use Rattle.lists.specs.Lists.{no_room, over_64}

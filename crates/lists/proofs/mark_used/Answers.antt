@@ -1,9 +1,8 @@
 -- `lists::mark_used` meets its contract. The invariant: the planes of i rows are marked. The measure is what is left of m. Assumes nothing.
-use borrow.Author.Rules.{rules}
 use mathlib.Core.Path.{◌≡◌, refl, subst}
-use Prim.Native.Nat.{◌-◌, ◌*◌, ◌≤◌}
+use Prim.Native.Nat.{◌*◌}
 use native.Mathlib.Omega.{arith}
-use lib.ListN.{length, length-set}
+use lib.ListN.{length-set}
 use Rattle.lists.specs.Steps.{MarkTold}
 use Rattle.lists.proofs.Used.{marks_none, mark_more}
 use Rattle.lists.proofs.mark_used.Goals as goal

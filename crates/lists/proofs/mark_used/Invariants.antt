@@ -1,10 +1,7 @@
-use borrow.Author.Rules.{rules}
-use mathlib.Core.Path.{◌≡◌, refl, subst}
-use Prim.Native.Nat.{◌-◌, ◌*◌, ◌≤◌}
-use native.Mathlib.Omega.{arith}
-use lib.ListN.{length, length-set}
+use mathlib.Core.Path.{◌≡◌}
+use Prim.Native.Nat.{◌-◌, ◌≤◌}
+use lib.ListN.{length}
 use Rattle.lists.specs.Steps.{MarkTold}
-use Rattle.lists.proofs.Used.{marks_none, mark_more}
 use Rattle.lists.proofs.mark_used.Given as goal
 
 abbrev pub invariant-loop-i : goal.invariant-loop-i

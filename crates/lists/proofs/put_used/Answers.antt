@@ -1,8 +1,6 @@
 -- `lists::put_used` meets its contract. The invariant: the planes used among the first i are put. The measure is what is left of n. Assumes nothing.
-use borrow.Author.Rules.{rules}
-use mathlib.Core.Logic.{⊎_elim}
 use mathlib.Core.Path.{◌≡◌, refl, sym, ap, subst, ◌∙◌}
-use Prim.Native.Nat.{◌+◌, ◌-◌, ◌*◌, ◌≤◌}
+use Prim.Native.Nat.{◌+◌, ◌*◌}
 use native.Mathlib.Omega.{arith}
 use lib.Seq.{sets}
 use lib.ListN.{length}
@@ -11,6 +9,7 @@ use Rattle.lists.specs.Steps.{Puts}
 use Rattle.lists.proofs.Rows.{four}
 use Rattle.lists.proofs.Puts.{puts_none, puts_used, puts_unused, put_room}
 use Rattle.lists.proofs.put_used.Goals as goal
+use Rattle.lists.proofs.put_used.Goals.{then-used-i-eq1, else-used-i-eq1}
 
 pub loop-i-init : goal.loop-i-init
 loop-i-init c = (omega arith, refl, puts_none c.args.joined.now c.args.used.now c.args.planes.now c.requires.zeros)
@@ -30,13 +29,14 @@ loop-i-preserved c =
     let t = c.loop-i-test.true in
     let j = c.args.joined.now in
     let u = c.args.used.now in
-    ⊎_elim
-    (λ w.
-    let k = c.requires.each l.i t in
-    let room = put_room j u l.i c.args.n (length l.planes) t w.0.taken (omega (arith, c.requires.room, l.invariant.1)) in
-    (omega (arith, t), ap length w.6 ∙ w.4.kept.0 ∙ l.invariant.1, subst (Puts j (l.i + 1) u) (sym w.6) (puts_used j u l.i l.planes w.4.last.0 (plane w.3.result) w.0.taken w.3.ensures room (w.4.ensures ∙ ap (λ v. sets l.planes (4 * v) (four (plane w.3.result))) k) l.invariant.2)))
-    (λ w. (omega (arith, t), ap length w.1 ∙ l.invariant.1, subst (Puts j (l.i + 1) u) (sym w.1) (puts_unused j u l.i l.planes w.0.left l.invariant.2)))
-    c.if-used-i-eq1.branch
+    elim c.if-used-i-eq1.branch [
+      | then-used-i-eq1 w ↦
+          let k = c.requires.each l.i t in
+          let room = put_room j u l.i c.args.n (length l.planes) t w.if-used-i-eq1.true (omega (arith, c.requires.room, l.invariant.1)) in
+          (omega (arith, t), ap length w.planes-is ∙ w.put_plane.auto.list ∙ l.invariant.1, subst (Puts j (l.i + 1) u) (sym w.planes-is) (puts_used j u l.i l.planes w.put_plane.new.list (plane w.row.result) w.if-used-i-eq1.true w.row.ensures room (w.put_plane.ensures ∙ ap (λ v. sets l.planes (4 * v) (four (plane w.row.result))) k) l.invariant.2))
+      | else-used-i-eq1 w ↦
+          (omega (arith, t), ap length w.planes-is ∙ l.invariant.1, subst (Puts j (l.i + 1) u) (sym w.planes-is) (puts_unused j u l.i l.planes w.if-used-i-eq1.false l.invariant.2))
+    ]
 
 pub returns : goal.returns
 returns c =

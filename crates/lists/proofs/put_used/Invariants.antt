@@ -1,14 +1,7 @@
-use borrow.Author.Rules.{rules}
-use mathlib.Core.Logic.{⊎_elim}
-use mathlib.Core.Path.{◌≡◌, refl, sym, ap, subst, ◌∙◌}
-use Prim.Native.Nat.{◌+◌, ◌-◌, ◌*◌, ◌≤◌}
-use native.Mathlib.Omega.{arith}
-use lib.Seq.{sets}
+use mathlib.Core.Path.{◌≡◌}
+use Prim.Native.Nat.{◌-◌, ◌≤◌}
 use lib.ListN.{length}
-use Rattle.planes.specs.Values.{plane}
 use Rattle.lists.specs.Steps.{Puts}
-use Rattle.lists.proofs.Rows.{four}
-use Rattle.lists.proofs.Puts.{puts_none, puts_used, puts_unused, put_room}
 use Rattle.lists.proofs.put_used.Given as goal
 
 abbrev pub invariant-loop-i : goal.invariant-loop-i

@@ -1,9 +1,8 @@
 -- `lists::rank` meets its contract. The invariant: i ranks are told, and k is the next. The measure is what is left of n. Assumes nothing.
-use borrow.Author.Rules.{rules}
 use mathlib.Core.Path.{◌≡◌, refl, sym, ap, subst, ◌∙◌}
-use Prim.Native.Nat.{◌+◌, ◌-◌, ◌≤◌}
+use Prim.Native.Nat.{◌+◌}
 use native.Mathlib.Omega.{arith}
-use lib.ListN.{set, length, length-set}
+use lib.ListN.{set, length-set}
 use Rattle.theory.specs.Text.Renumber.{rank}
 use Rattle.lists.specs.Steps.{marked, Ranks}
 use Rattle.lists.proofs.Used.{mark_is, rank_none, rank_next, rank_small, ranked_more}

@@ -1,11 +1,8 @@
-use borrow.Author.Rules.{rules}
-use mathlib.Core.Path.{◌≡◌, refl, sym, ap, subst, ◌∙◌}
-use Prim.Native.Nat.{◌+◌, ◌-◌, ◌≤◌}
-use native.Mathlib.Omega.{arith}
-use lib.ListN.{set, length, length-set}
+use mathlib.Core.Path.{◌≡◌}
+use Prim.Native.Nat.{◌-◌, ◌≤◌}
+use lib.ListN.{length}
 use Rattle.theory.specs.Text.Renumber.{rank}
 use Rattle.lists.specs.Steps.{marked, Ranks}
-use Rattle.lists.proofs.Used.{mark_is, rank_none, rank_next, rank_small, ranked_more}
 use Rattle.lists.proofs.rank.Given as goal
 
 abbrev pub invariant-loop-i : goal.invariant-loop-i

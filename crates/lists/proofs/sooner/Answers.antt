@@ -1,5 +1,4 @@
 -- `lists::sooner` meets its contract. Assumes nothing.
-use borrow.Author.Rules.{rules}
 use native.Mathlib.Omega.{arith}
 use Rattle.lists.proofs.Joins.{told_sooner}
 use Rattle.lists.proofs.sooner.Goals as goal

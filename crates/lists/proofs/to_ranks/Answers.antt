@@ -1,9 +1,8 @@
 -- `lists::to_ranks` meets its contract. The invariant: i rows are changed, and the rest is as it was. The measure is what is left of m. Assumes nothing.
-use borrow.Author.Rules.{rules}
 use mathlib.Core.Path.{◌≡◌, refl, subst}
-use Prim.Native.Nat.{◌-◌, ◌*◌, ◌≤◌}
+use Prim.Native.Nat.{◌*◌}
 use native.Mathlib.Omega.{arith}
-use lib.ListN.{length, get_or, length-set}
+use lib.ListN.{get_or, length-set}
 use Rattle.lists.specs.Steps.{Numbered}
 use Rattle.lists.proofs.Rows.{numbered_none, row_kept, row_more}
 use Rattle.lists.proofs.to_ranks.Goals as goal

@@ -1,10 +1,7 @@
-use borrow.Author.Rules.{rules}
-use mathlib.Core.Path.{◌≡◌, refl, subst}
-use Prim.Native.Nat.{◌-◌, ◌*◌, ◌≤◌}
-use native.Mathlib.Omega.{arith}
-use lib.ListN.{length, get_or, length-set}
+use mathlib.Core.Path.{◌≡◌}
+use Prim.Native.Nat.{◌-◌, ◌≤◌}
+use lib.ListN.{length}
 use Rattle.lists.specs.Steps.{Numbered}
-use Rattle.lists.proofs.Rows.{numbered_none, row_kept, row_more}
 use Rattle.lists.proofs.to_ranks.Given as goal
 
 abbrev pub invariant-loop-i : goal.invariant-loop-i
