@@ -1,7 +1,6 @@
 -- `points::number` meets its contract. Assumes nothing.
 use mathlib.Core.Path.{sym, ap}
 use Rattle.points.specs.Promises.{number_of}
-use borrow.Author.Rules.{rules}
 use Rattle.points.proofs.number.Goals as goal
 
 pub returns-in-Refused : goal.returns-in-Refused

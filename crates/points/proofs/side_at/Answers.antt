@@ -6,7 +6,6 @@ use Rattle.scope.specs.Planes.{at}
 use Rattle.planes.specs.Values.{point, side_is}
 use Rattle.planes.specs.Bounds.{PlaneIn, SumIn}
 use Rattle.planes.proofs.Laws.{sum_in, sum_kept_in, sum_kept}
-use borrow.Author.Rules.{rules}
 use Rattle.points.proofs.side_at.Lts as lts
 use Rattle.points.proofs.side_at.Tie as tie
 use Rattle.points.proofs.side_at.Reads as reads

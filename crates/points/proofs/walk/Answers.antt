@@ -1,9 +1,6 @@
 -- `points::walk` meets its contract. The invariant: the code stands for a subtree whose reply is the tree's (proofs/Walks). The measure is one more than the code of a row, and 0 at a mark. Assumes nothing.
-use borrow.Author.Rules.{rules}
-use Rattle.scope.specs.Solids.{Tree}
 use Rattle.planes.specs.Values.{point}
-use Rattle.tables.specs.Promises.{SolidOf}
-use Rattle.points.proofs.Walks.{Below, rank, begin, step_in, walk_on, walk_to, walk_less, walk_in, walk_out}
+use Rattle.points.proofs.Walks.{begin, step_in, walk_on, walk_to, walk_less, walk_in, walk_out}
 use Rattle.points.proofs.walk.Goals as goal
 
 pub loop-code-init : goal.loop-code-init
