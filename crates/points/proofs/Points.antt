@@ -13,21 +13,17 @@ use Rattle.scope.specs.Cells.{box}
 use Rattle.scope.specs.Solids.{IN, OUT, Reply, marked, ON, reply}
 use Rattle.scope.specs.Judging.{judge_lent}
 use Rattle.scope.specs.Answers.{given, refused, all_front, point_ok, short_work, enough_work, bad_solid, bad_point, told as answers, PointAnswer, PointBy}
-use Rattle.theory.specs.Answers.{solid}
 use Rattle.theory.specs.Text.Lent.{lent}
 use Rattle.planes.specs.Values.{quad, point}
 use Rattle.planes.specs.Bounds.{PointIn, point_range_in}
 use Rattle.planes.specs.Promises.{point_by, PointMade}
 use Rattle.planes.specs.declared.Point as P
 use Rattle.planes.specs.declared.MadePoint.{MadePoint}
-use Rattle.planes.specs.declared.MadePoint.TheVariants as MadePoint
 use Rattle.tables.specs.Promises.{judgement, Judges}
 use Rattle.points.specs.Promises.{Walked, told, number_of, told_answer, Tells}
 use Rattle.tables.specs.declared.Solid.{Solid}
 use Rattle.tables.specs.declared.Judgement.{Judgement}
-use Rattle.tables.specs.declared.Judgement.TheVariants as Judgement
 use Rattle.points.specs.declared.Told.{Told}
-use Rattle.points.specs.declared.Told.TheVariants as Told
 use Rattle.tables.proofs.Soundness.{Sound, rows_refused, rows_sound}
 
 -- ---- the point

@@ -28,7 +28,6 @@ use Rattle.tables.specs.Rows.{plane_at, entry_at}
 use Rattle.tables.specs.Promises.{SolidOf}
 use Rattle.points.specs.Promises.{StepIn, went, stepped, told}
 use Rattle.points.specs.declared.Went.{Went}
-use Rattle.points.specs.declared.Went.TheVariants as Went
 use Rattle.points.specs.declared.Told.TheVariants as Told
 use Rattle.tables.proofs.Flats.{flat_planes_length, flat_nodes_length, flat_plane, flat_entry}
 

@@ -4,7 +4,6 @@
 --     told, Walked               the walk, of any tree that has the tables
 --     number_of, told_answer, Tells   the public call
 use Rattle.std.specs.Prelude.{◌≡◌, List, ℕ, ◌+◌, ◌*◌, ◌<◌, ℤ, pos, length, get_or, replicate}
-use Rattle.whole.specs.Tests.{◌or◌}
 use Rattle.whole.specs.Sign.{Sign, minus, nought, plus}
 use Rattle.scope.specs.Planes.{Point, side}
 use Rattle.scope.specs.Solids.{IN, OUT, Tree, Reply, marked, ON, reply}
