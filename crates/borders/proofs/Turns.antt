@@ -83,6 +83,6 @@ fronts_is (some OUT) e = ap fronts e
 abbrev pub left : Stage → ℕ
 left t = base t.front + base t.front + base t.mark
 
-pub walk_falls : {o : Operation} {t u : Stage} {f k : Option Mark} {x : Mark} {root : ℕ} → t.front ≡ turn_code f → t.mark ≡ turn_code k → (root < 65534 → root < 1000) → Follows o t f k x (Walk u root) → left u + rank root < left t
+pub walk_falls : {o : Operation} {t : Stage} {f k : Option Mark} {x : Mark} {u : Stage} {root : ℕ} → t.front ≡ turn_code f → t.mark ≡ turn_code k → (root < 65534 → root < 1000) → Follows o t f k x (Walk u root) → left u + rank root < left t
 walk_falls {t = t} {root = root} ef ek l (to_b f x) = omega (arith, ap base ef, base_a t.mark ek, base_b (number (mark x)) (mark_in x refl).0, rank_below root 1000 l)
 walk_falls {o} {t = t} {root = root} ef ek l (to_backs a x) = omega (arith, base_a t.front ef, base_b (number (mark (operate o a x))) (mark_in (operate o a x) refl).0, base_a 0 refl, rank_below root 1000 l)
