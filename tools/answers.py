@@ -319,6 +319,8 @@ def convert(crate, rel, text, fn, root):
                     said.append(f"settled or gone: {old}")
                 continue
             new, idx = hit
+            if new.startswith("shape_of-"):
+                continue
             turned[local] = new
             if body.group(2).strip() == "search rules":
                 idle.add(new)
@@ -400,6 +402,8 @@ def cycle(crate, rel, text, fns, root):
             if body.group(2).strip() == "search rules":
                 continue
             new, idx = hit
+            if new.startswith("shape_of-"):
+                continue
             full = f"{name}-{new}"
             turned[local] = full
             place = fn.byname.get(norm(fn.e["asked_at"][idx][0]))
