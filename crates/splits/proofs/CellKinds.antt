@@ -14,7 +14,7 @@ use lib.IntN.{ℤ}
 use lib.ListN.{length}
 use Rattle.whole.specs.Members.{◌∈◌, here, there, in_either}
 use Rattle.scope.specs.Planes.{Plane, Point, Lawful}
-use Rattle.scope.specs.Solids.{Tree, rows, planes, mark, code}
+use Rattle.scope.specs.Solids.{Tree, rows, planes, code}
 use Rattle.scope.specs.Cells.{Inside, box, MergedIn, Operation, operate}
 use Rattle.scope.specs.Normal.{both}
 use Rattle.theory.specs.Planes.Lawful.{lawful_nonzero}

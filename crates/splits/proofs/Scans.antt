@@ -17,7 +17,6 @@ use Rattle.planes.specs.Values.{plane}
 use Rattle.planes.specs.declared.Plane as struct
 use Rattle.planes.specs.declared.Meeting.{Meeting}
 use Rattle.cells.specs.declared.Classified.{Classified}
-use Rattle.cells.specs.declared.Classified.TheVariants as Classified
 use Rattle.cells.specs.Paths.{OnPath, Classes, is_cut, is_front, is_behind, ClassifiedIn, ClassifyIn}
 use Rattle.cells.proofs.Paths.{on_map}
 use Rattle.walks.specs.Walks.{In}
