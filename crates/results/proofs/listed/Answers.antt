@@ -1,7 +1,6 @@
 -- `results::listed` meets its contract. Assumes nothing.
 use mathlib.Core.Path.{sym, ap}
 use Rattle.results.specs.Results.{listed_as}
-use borrow.Author.Rules.{rules}
 use Rattle.results.proofs.listed.Goals as goal
 
 pub returns-in-Refused : goal.returns-in-Refused

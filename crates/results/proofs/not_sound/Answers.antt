@@ -1,7 +1,6 @@
 -- `results::not_sound` meets its contract. Assumes nothing.
 use mathlib.Core.Path.{sym, ap}
 use Rattle.results.specs.Results.{not_sound}
-use borrow.Author.Rules.{rules}
 use Rattle.results.proofs.not_sound.Goals as goal
 
 pub returns-in-Refused : goal.returns-in-Refused

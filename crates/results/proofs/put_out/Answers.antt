@@ -1,7 +1,6 @@
 -- `results::put_out` meets its contract: the listing of the planes that the rows use (proofs/PutOut). Assumes nothing.
 use Rattle.walks.proofs.Emits.{got}
 use Rattle.results.proofs.PutOut.{list_in, put_refused, put_listed}
-use borrow.Author.Rules.{rules}
 use Rattle.results.proofs.put_out.Goals as goal
 
 pub returns-in_default : goal.returns-in_default
