@@ -6,7 +6,6 @@ use Rattle.zeros.proofs.Fill.{cleared}
 use Rattle.theory.specs.Text.Lent.{lent}
 use Rattle.results.specs.Results.{merge_of}
 use Rattle.results.proofs.Calls.{told_refused, told_solid}
-use borrow.Author.Rules.{rules}
 use Rattle.merging.proofs.merge.Goals as goal
 
 pub merge_judged-m-requires : goal.merge_judged-m-requires

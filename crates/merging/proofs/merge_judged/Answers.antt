@@ -1,7 +1,6 @@
 -- `merging::merge_judged` meets its contract: at each way out the answer is document 01's (proofs/Told). Assumes nothing.
 use native.Mathlib.Omega.{arith}
 use Rattle.merging.proofs.Told.{work_short, not_known, a_not, b_not, sound_in, both_sound}
-use borrow.Author.Rules.{rules}
 use Rattle.merging.proofs.merge_judged.Goals as goal
 
 pub returns-then-work-lt-WORK : goal.returns-then-work-lt-WORK

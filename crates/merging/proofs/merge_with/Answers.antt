@@ -2,7 +2,6 @@
 use native.Mathlib.Omega.{arith}
 use Rattle.results.proofs.Operands.{join_in, joined_count, whole_list}
 use Rattle.merging.proofs.Sound.{walk_in, merged_rows, put_in}
-use borrow.Author.Rules.{rules}
 use Rattle.merging.proofs.merge_with.Goals as goal
 
 pub join-n-requires : goal.join-n-requires
@@ -10,6 +9,9 @@ join-n-requires c = join_in c.requires.0 c.requires.1
 
 pub overflow_mul-list : goal.overflow_mul-list
 overflow_mul-list c = record { fits = omega (arith, joined_count c.requires.0 c.join-n.ensures) }
+
+pub slice_bounds-list-end : goal.slice_bounds-list-end
+slice_bounds-list-end c = omega (arith, joined_count c.requires.0 c.join-n.ensures, c.join-n.auto.joined, c.requires.1.joined_room)
 
 pub side_walk-w-requires : goal.side_walk-w-requires
 side_walk-w-requires c = walk_in c.requires.0 c.requires.1 c.join-n.ensures c.join-n.auto.numbers (whole_list c.join-n.result c.join-n.new.joined)
