@@ -3,7 +3,7 @@
 --     merge_refusal        a number is given only when the definitions give it, and leaves every table all zeros
 --     merge_given          demand 2: a solid that is given is the tree that the definition gives, row for row; it answers points as the
 --                          operation does, keeps no plane that misses its cell, and has at most n + m + n·m rows
-use Rattle.std.specs.Prelude.{◌≡◌, refl, List, ℕ, ◌+◌, ◌-◌, ◌*◌, ◌≤◌, ℤ, pos, length}
+use Rattle.std.specs.Prelude.{◌≡◌, refl, List, ℕ, ◌+◌, ◌*◌, ◌≤◌, ℤ, pos, length}
 use Rattle.scope.specs.Planes.{Point}
 use Rattle.scope.specs.Solids.{Tree, rows, planes, Tables, tables_of, answer as answers}
 use Rattle.scope.specs.Cells.{Inside, box, Off, Operation, operate, Merged}
