@@ -1,7 +1,6 @@
 -- `inputs::not_operation` meets its contract. Assumes nothing.
 use mathlib.Core.Path.{sym, ap}
 use Rattle.inputs.specs.Steps.{not_operation}
-use borrow.Author.Rules.{rules}
 use Rattle.inputs.proofs.not_operation.Goals as goal
 
 pub returns-in-Refused : goal.returns-in-Refused

@@ -1,7 +1,6 @@
 -- `inputs::not_read` meets its contract. Assumes nothing.
 use mathlib.Core.Path.{sym, ap}
 use Rattle.inputs.specs.Steps.{not_read}
-use borrow.Author.Rules.{rules}
 use Rattle.inputs.proofs.not_read.Goals as goal
 
 pub returns-in-Refused : goal.returns-in-Refused

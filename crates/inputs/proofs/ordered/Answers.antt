@@ -1,7 +1,6 @@
 -- `inputs::ordered` meets its contract. Assumes nothing.
 use mathlib.Core.Path.{sym, ap}
 use Rattle.inputs.specs.Steps.{order_of}
-use borrow.Author.Rules.{rules}
 use Rattle.inputs.proofs.ordered.Goals as goal
 
 pub returns-in-Refused : goal.returns-in-Refused

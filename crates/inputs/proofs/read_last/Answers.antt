@@ -5,7 +5,6 @@ use Rattle.lines.specs.Reading.{rooms}
 use Rattle.zeros.proofs.Fill.{cleared}
 use Rattle.solids.proofs.Told.{solid_inside}
 use Rattle.inputs.proofs.Input.{lent_rooms, last_told}
-use borrow.Author.Rules.{rules}
 use Rattle.inputs.proofs.read_last.Goals as goal
 
 pub read_solid-r-requires : goal.read_solid-r-requires
