@@ -10,7 +10,7 @@ use borrow.Author.Tests.{lt-leb}
 use lib.IntN.{ℤ}
 use lib.ListN.{length, take}
 use Rattle.scope.specs.Limits.{stated}
-use Rattle.scope.specs.Solids.{OUT, leaf, planes, code, post, ascending, tables_of}
+use Rattle.scope.specs.Solids.{OUT, leaf, code, post, ascending, tables_of}
 use Rattle.scope.specs.Cells.{union}
 use Rattle.scope.specs.Judging.{judge_lent}
 use Rattle.scope.specs.Answers.{flat_planes, flat_nodes, refused, tree_answer, short_work, enough_work, solid_refused, formed}
