@@ -75,9 +75,11 @@ class Fn:
     def need(self, name):
         n = norm(re.sub(r"^(overflow|nonzero)-", "", name))
         hit = self.needs.get(n) or self.needs.get(norm(name))
-        if hit is None and name.startswith("slice-bounds-") and name.endswith("-end"):
-            # its place has no name of its own: the last one, from which every step is seen
-            return ("slice_bounds-" + name[len("slice-bounds-"):-4].replace("-", "_") + "-end", len(self.e["asked_at"]) - 1)
+        m = re.match(r"slice-bounds-([\w-]+?)-end(-\d+)?$", name)
+        if hit is None and m:
+            for i, (_, new) in enumerate(self.e["needs"]):
+                if new == f"slice_bounds-{m.group(1).replace('-', '_')}-end{m.group(2) or ''}":
+                    return new, i
         return hit
 
     def up(self, i, k):
