@@ -1,14 +1,9 @@
 -- `texts::merges::merge_with` meets its contract: the order is refused, or merged (proofs/TextMerge). Assumes nothing.
-use mathlib.Core.Path.{subst, ◌∙◌}
+use mathlib.Core.Path.{◌∙◌}
 use native.Mathlib.Omega.{arith}
 use lib.IntN.{pos}
 use Rattle.zeros.proofs.Fill.{cleared}
-use Rattle.inputs.specs.Orders.{OrderHeld, OrderTold}
 use Rattle.texts.proofs.TextMerge.{order_refused, order_held, order_merged}
-use borrow.Author.Rules.{rules}
-use Rattle.texts.proofs.merges.merge_with.Lts as lts
-use Rattle.texts.proofs.merges.merge_with.Tie as tie
-use Rattle.texts.proofs.merges.merge_with.Reads as reads
 use Rattle.texts.proofs.merges.merge_with.Goals as goal
 
 pub read_order-o-requires : goal.read_order-o-requires
@@ -28,15 +23,10 @@ read_order-o-requires c =
 pub returns-in_default : goal.returns-in_default
 returns-in_default c = order_refused c.read_order-o.new.a_planes c.read_order-o.new.a_nodes c.read_order-o.new.b_planes c.read_order-o.new.b_nodes c.in_default.is c.read_order-o.ensures c.not_ordered.ensures
 
--- the order that was read
-ordered : (c : lts.After-o tie.the-claims reads.Pre reads.Post) → OrderHeld c.args.text.now c.read_order-o.new.a_planes c.read_order-o.new.a_nodes c.read_order-o.new.b_planes c.read_order-o.new.b_nodes c.o-1.given.0.0 c.o-1.given.0.1.0 c.o-1.given.0.1.1.0
-ordered c = subst (OrderTold c.args.text.now c.read_order-o.new.a_planes c.read_order-o.new.a_nodes c.read_order-o.new.b_planes c.read_order-o.new.b_nodes) c.o-1.given.1 c.read_order-o.ensures
-
 pub merge_read-requires : goal.merge_read-requires
 merge_read-requires c =
-    let o = ordered c.before.before.before.before.before in
     let h = c.requires in
-    record { first = (order_held o).0; second = (order_held o).1; result = record { planes = h.result.planes; nodes = h.result.nodes; enough = omega (arith, h.result.enough, c.read_order-o.auto.work) } }
+    record { first = (order_held c.in-Order.ensures).0; second = (order_held c.in-Order.ensures).1; result = record { planes = h.result.planes; nodes = h.result.nodes; enough = omega (arith, h.result.enough, c.read_order-o.auto.work) } }
 
 pub returns : goal.returns
-returns c = order_merged (ordered c.before.before.before.before.before.before.before.before.before.before.before.before) c.merge_read.ensures
+returns c = order_merged c.in-Order.ensures c.merge_read.ensures

@@ -2,7 +2,6 @@
 use native.Mathlib.Omega.{arith}
 use Rattle.outputs.proofs.Held.{held_room}
 use Rattle.texts.proofs.TextForm.{form_gave, forming_told}
-use borrow.Author.Rules.{rules}
 use Rattle.texts.proofs.normals.normal_read.Goals as goal
 
 pub overflow_mul-a : goal.overflow_mul-a
@@ -13,6 +12,9 @@ slice_bounds-normal-end c = omega (arith, (held_room c.args.a c.args.ap.now c.ar
 
 pub overflow_mul-a-2 : goal.overflow_mul-a-2
 overflow_mul-a-2 c = record { fits = omega (arith, (held_room c.args.a c.args.ap.now c.args.an.now c.requires.solid.is c.requires.solid.lawful c.requires.solid.held).few_nodes) }
+
+pub slice_bounds-normal-end-2 : goal.slice_bounds-normal-end-2
+slice_bounds-normal-end-2 c = omega (arith, (held_room c.args.a c.args.ap.now c.args.an.now c.requires.solid.is c.requires.solid.lawful c.requires.solid.held).nodes)
 
 pub written-requires : goal.written-requires
 written-requires c =

@@ -1,7 +1,6 @@
 -- `texts::normals::normal_with` meets its contract: the solid is refused, or put into its form (proofs/TextForm). Assumes nothing.
 use native.Mathlib.Omega.{arith}
 use Rattle.texts.proofs.TextForm.{solid_refused, solid_held, solid_formed}
-use borrow.Author.Rules.{rules}
 use Rattle.texts.proofs.normals.normal_with.Goals as goal
 
 pub returns-in_default : goal.returns-in_default

@@ -2,7 +2,6 @@
 use mathlib.Core.Path.{sym, subst}
 use Rattle.outputs.specs.Outputs.{Refuses}
 use Rattle.texts.specs.Steps.{not_read}
-use borrow.Author.Rules.{rules}
 use Rattle.texts.proofs.normals.not_read.Goals as goal
 
 pub returns-in-Refused : goal.returns-in-Refused
