@@ -1,6 +1,6 @@
 -- No second number, no second count and no second table meets the promise of a function of the library.
 --     given_unique, read_out_unique, write_out_unique, text_out_unique, section_out_unique, point_out_unique
-use Rattle.std.specs.Prelude.{◌≡◌, List, ℕ, ◌-◌, ℤ, length}
+use Rattle.std.specs.Prelude.{◌≡◌, List, ℕ, ℤ}
 use Rattle.std.proofs.Common.{sym, ap, ◌∙◌}
 use Rattle.scope.specs.Planes.{Point}
 use Rattle.planes.specs.declared.Plane.{Plane}
