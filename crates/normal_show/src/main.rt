@@ -72,7 +72,7 @@ fn append(text: &mut [u8], n: usize, s: &[u8]) -> usize {
     if text.len() - n < s.len() {
         return n;
     }
-    bytes::copy(s, &mut text[n..]);
+    text[n..n + s.len()].copy_from_slice(s);
     n + s.len()
 }
 
