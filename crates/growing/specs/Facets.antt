@@ -7,7 +7,6 @@
 --     narrowed, sound_narrowed         a facet in a half-space is one
 use Rattle.std.specs.Prelude.{◌≡◌, true, false, List, ◌∷◌, ◌++◌, ◌≢◌, pos}
 use Rattle.std.proofs.Common.{sym, ◌∙◌}
-use Rattle.whole.specs.Order.{on}
 use Rattle.whole.specs.Members.{◌∈◌, in_left, in_right}
 use Rattle.scope.specs.Planes.{Plane, Point, at}
 use Rattle.scope.specs.Cells.{Inside, box, Cuts, Off}

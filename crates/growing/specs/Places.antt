@@ -100,6 +100,7 @@ drop_ascending (p ∷ ls) (suc k) (next h a) = drop_ascending ls k a
 -- a listed plane is before the one in a place, or stands from there on
 drop_either : (ls : List Plane) (k : ℕ) {q : Plane} → Ascending ls → q ∈ drop k ls → (r : Plane) → r ∈ ls → (Before r q) ⊎ (r ∈ drop k ls)
 drop_either ls zero a m r n = inr n
+drop_either [] (suc k) {q = q} a m r n = elim m [ ]
 drop_either (p ∷ ls) (suc k) {q} (next h a) m r (here e) = inl (subst (λ s. Before s q) (sym e) (h q (drop_in ls k m)))
 drop_either (p ∷ ls) (suc k) (next h a) m r (there n) = drop_either ls k a m r n
 

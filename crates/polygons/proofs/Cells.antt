@@ -100,7 +100,7 @@ copied_more f t n v l e h j b = go (n - j) refl
 -- ---- indices
 
 -- an index that is one is the number itself
-pub number_is : (z : ℤ) → number z < 262 → z ≡ pos (number z)
+pub number_is : (z : ℤ) → number z < 134 → z ≡ pos (number z)
 number_is (pos n) l = refl
 number_is (negsuc n) l = absurd (omega arith)
 

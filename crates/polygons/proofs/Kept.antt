@@ -23,14 +23,14 @@ pub four_kept : {a b c d : ℤ} → SFits w64 a → SFits w64 b → SFits w64 c 
 four_kept f g h i = cc (to_z-of_z f, to_z-of_z g, to_z-of_z h, to_z-of_z i)
 
 -- an index as a number of the machine
-index_kept : (z : ℤ) → number z < 262 → k z ≡ pos (number z)
+index_kept : (z : ℤ) → number z < 134 → k z ≡ pos (number z)
 index_kept (pos n) l = to_z-of_z {w = w64} {z = pos n} (record { sfits = omega arith })
 index_kept (negsuc n) l = absurd (omega arith)
 
-pub cast_index : (z : ℤ) → number z < 262 → T (non_neg (k z)) × Fits w64 (nat_abs (k z))
+pub cast_index : (z : ℤ) → number z < 134 → T (non_neg (k z)) × Fits w64 (nat_abs (k z))
 cast_index z l = rw (index_kept z l) (tt, record { fits = omega arith })
 
-pub cast_is : (z : ℤ) → number z < 262 → nat_abs (k z) ≡ number z
+pub cast_is : (z : ℤ) → number z < 134 → nat_abs (k z) ≡ number z
 cast_is z l = ap nat_abs (index_kept z l)
 
 -- ---- stores of numbers that were kept
@@ -48,7 +48,7 @@ stored_four t i f g h l =
     let r : i + 3 ≡ suc (suc (suc i)) = omega arith in
     λ j. set (set (set (set t i (a j)) (p j) (b j)) (q j) (c j)) (r j) (d j)
 
-pub stored_corner : (t : List ℤ) (i n : ℕ) {a b c d : ℤ} → n < 262 → SFits w64 a → SFits w64 b → SFits w64 c → SFits w64 d
+pub stored_corner : (t : List ℤ) (i n : ℕ) {a b c d : ℤ} → n < 134 → SFits w64 a → SFits w64 b → SFits w64 c → SFits w64 d
     → set (set (set (set (set t i (to_z w64 n)) (i + 1) (k a)) (i + 2) (k b)) (i + 3) (k c)) (i + 4) (k d) ≡ sets t i (pos n ∷ a ∷ b ∷ c ∷ d ∷ [])
 stored_corner t i n s f g h l =
     let m : to_z w64 n ≡ pos n = to_z-of_z {w = w64} {z = pos n} (record { sfits = omega arith }) in

@@ -192,10 +192,10 @@ module _ (s : Plane) (hs : List ℤ) (width rows : ℕ) (g : Region s hs width (
 
 -- ---- a turn of the loop over rows in order
 
-module _ (s : Plane) (hs : List ℤ) (rows : ℕ) (g : Region s hs 4 (6 + rows)) (d : rows ≤ 128) (i : ℕ) (l : i < rows) (t : List ℤ) (n : ℕ) (out : List ℤ) (p : Polygon s (look hs 4) (6 + rows) (scope.rest (scope.way s) ++ rows_to hs 4 i) t n)
+module _ (s : Plane) (hs : List ℤ) (rows : ℕ) (g : Region s hs 4 (6 + rows)) (i : ℕ) (l : i < rows) (t : List ℤ) (n : ℕ) (out : List ℤ) (p : Polygon s (look hs 4) (6 + rows) (scope.rest (scope.way s) ++ rows_to hs 4 i) t n)
     (m : 675 ≤ length t) (m' : 675 ≤ length out) where
   few : length (scope.rest (scope.way s) ++ rows_to hs 4 i) ≤ 129
-  few = rows_few s hs rows i l (omega (arith, d))
+  few = rows_few s hs rows i l (omega (arith, g.few))
 
   pub turn_clip : ClipIn s hs 4 (6 + i) t n out
   turn_clip = row_clip s hs 4 rows g i l (scope.rest (scope.way s) ++ rows_to hs 4 i) t n out p few m m'

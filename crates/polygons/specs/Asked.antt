@@ -30,7 +30,7 @@ pub record Region (s : Plane) (hs : List ℤ) (width top : ℕ) : Type 0 where
   pub support : in_range s ≡ true
   pub normal : lead s ≢ nought
   pub box : 6 ≤ top
-  pub few : top ≤ 262
+  pub few : top ≤ 134
   pub found : (k : ℕ) → k < top → Found hs width k
   pub ranged : (k : ℕ) → k < top → in_range (look hs width k) ≡ true
 
@@ -45,7 +45,7 @@ pub record Polygon (s : Plane) (plane : ℕ → Plane) (top : ℕ) (gs : List Pl
 -- corner i stands in the table, and its index is one
 pub record CornerIn (t : List ℤ) (i : ℕ) : Type 0 where
   pub room : 5 * i + 5 ≤ length t
-  pub index_small : index (corner_at t i) < 262
+  pub index_small : index (corner_at t i) < 134
 
 -- the first three vertices
 pub record AddedIn (t : List ℤ) : Type 0 where

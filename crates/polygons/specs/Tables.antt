@@ -40,10 +40,10 @@ look hs width k = box_or k (row hs width (k - 6))
 
 -- ---- corners
 
--- an index is at most 261
+-- an index is at most 133
 abbrev pub number : ℤ → ℕ
 number (pos n) = n
-number (negsuc n) = 262
+number (negsuc n) = 134
 
 unfoldable pub corner_at : List ℤ → ℕ → Corner
 corner_at t i =

@@ -9,9 +9,9 @@ mod lines;
 mod start;
 mod table;
 
-pub use clipping::{clip, clip_on, side_at};
+pub use clipping::clip_on;
 pub use start::{begin, opened, way};
-pub use table::{added, copy, index_at, row, write_row};
+pub use table::{added, index_at, row, write_row};
 
 // ---- the kinds
 

@@ -122,7 +122,7 @@ pub fn vertex_at(t: &[i64], i: usize) -> Meeting
 
 // Puts a corner into a table.
 pub fn put(t: &mut [i64], i: usize, k: usize, m: Meeting)
-    requires { (5 * i + 5 ≤ length t.old) × (k < 262) }
+    requires { (5 * i + 5 ≤ length t.old) × (k < 134) }
     ensures { t.new ≡ sets t.old (5 * i) (pos k ∷ m.x ∷ m.y ∷ m.z ∷ m.w ∷ []) }
 {
     let at = 5 * i;

@@ -11,12 +11,12 @@ use Rattle.whole.specs.Tests.{◌and◌, and_make, and_split, lt_true, lt_false}
 use Rattle.whole.specs.Gcd.{euclid, gcd}
 use Rattle.scope.specs.Limits.{most_work, most_planes, most_nodes, stated}
 use Rattle.scope.specs.Planes.{Plane, Point, at, in_range, lead, common, fault, half_fault, coincident, before, equal, point_in_range}
-use Rattle.scope.specs.Solids.{IN, OUT, Tree, leaf, node, rows, code, planes, post, insert_by, insert, ascending, place, tables_of, marked, ON, reply}
+use Rattle.scope.specs.Solids.{IN, OUT, Tree, leaf, node, rows, code, planes, post, insert_by, insert, ascending, place, tables_of, marked, reply}
 use Rattle.scope.specs.Cells.{intersection, box}
 use Rattle.scope.specs.Section.{clip, clips, section}
 use Rattle.scope.specs.Text.{digit, hex, pairs, hexes, lines, content, line, word, high, low, long, high_word, low_word, signed, unsigned, plane_of, frame, frames, bytes, written, refusal_line, solid_frames, text}
 use Rattle.scope.specs.Judging.{Rooms, take_child, add_row, uses, all_used, root_ok, judge_head, step, read_solid, judge, plane_table, node_table, Lent, judge_lent, order, known, opening, judge_merge}
-use Rattle.scope.specs.Answers.{Answer, given, refused, flat_planes, flat_nodes, plane_numbers, node_numbers, filled, left, plane_answer, read_answer, write_answer, section_by, quads, section_answer, point_ok, PointAnswer, enough_work, told, bad_point, fits_rooms, tree_answer, merged, operand_rooms, printed, MergeText, merged_text}
+use Rattle.scope.specs.Answers.{Answer, given, refused, filled, left, plane_answer, read_answer, write_answer, section_by, quads, section_answer, point_ok, PointAnswer, enough_work, told, bad_point, tree_answer, merged, operand_rooms, printed, MergeText, merged_text}
 use Rattle.scope.proofs.Kit.{pl, m, every, same_numbers, chars_from, chars}
 use Rattle.scope.proofs.Cells.{px, py, A, B, a_and_b}
 

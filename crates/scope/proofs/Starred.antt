@@ -11,7 +11,6 @@ use Prim.Native.Nat.{ℕ}
 use Prim.Native.String.{String}
 use lib.Dec.{T}
 use lib.IntN.{pos}
-use Rattle.whole.specs.Tests.{differ}
 use Rattle.whole.specs.Order.{◌⋖◌, Lies, below, on, above, lies, pos_not_zero, neg_not_zero}
 use Rattle.whole.specs.Sign.{Sign, minus, nought, plus}
 use Rattle.whole.specs.Gcd.{euclid, gcd}

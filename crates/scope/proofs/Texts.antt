@@ -14,7 +14,7 @@ use Rattle.scope.specs.Planes.{Plane, in_range, lead, common, fault, before, equ
 use Rattle.scope.specs.Solids.{IN, OUT, Tree, leaf, node, rows, code, post, insert, ascending, place, Tables, tables, tables_of}
 use Rattle.scope.specs.Cells.{union, intersection, difference}
 use Rattle.scope.specs.Text.{torn, put, bad, each, digit, hex, pairs, hexes, lines, content, line, word, high, low, long, high_word, low_word, signed, unsigned, operation, plane_of, frame, frames, bytes, written, refusal_line, solid_frames, text, text_of, operation_code}
-use Rattle.scope.specs.Judging.{Rooms, fresh, finish, take_child, add_row, uses, all_used, root_ok, Step, go, done, stop, judge_head, step, read_solid, Verdict, accepted, refusal, judge, plane_table, node_table, Lent, judge_lent, MergeInput, order, order_refused, known, opening, judge_merge}
+use Rattle.scope.specs.Judging.{Rooms, fresh, finish, take_child, add_row, uses, all_used, root_ok, Step, go, done, stop, judge_head, step, read_solid, Verdict, accepted, refusal, judge, plane_table, node_table, judge_lent, MergeInput, order, order_refused, known, opening, judge_merge}
 use Rattle.scope.proofs.Kit.{pl, every, same_planes, same_numbers, chars_from, chars}
 
 -- ---- read, and written again

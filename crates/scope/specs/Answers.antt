@@ -1,5 +1,5 @@
 -- What each call answers: its values, or the number of the first refusal that it meets (R.18), and what it leaves in the tables lent to it. The enums of the code stand for these answers.
-use Rattle.std.specs.Prelude.{◌≡◌, Bool, true, false, cond, List, [], ◌∷◌, ◌++◌, ℕ, ◌-◌, ◌/◌, T, leb, length, replicate, ℤ, pos}
+use Rattle.std.specs.Prelude.{◌≡◌, Bool, true, false, cond, List, [], ◌∷◌, ◌++◌, ℕ, ◌-◌, ◌/◌, T, leb, length, replicate, ℤ}
 use Rattle.std.proofs.Math.Option.{Option, none, some}
 use Rattle.whole.specs.Tests.{◌and◌}
 use Rattle.scope.specs.Limits.{most_planes, most_nodes, most_halves, stated, program_planes, program_nodes}

@@ -10,14 +10,12 @@ use Rattle.polygons.specs.Asked.{Found, Region, Polygon, CornerIn}
 
 pub record ClipsIn (s : Plane) (hs : List ℤ) (rows : ℕ) (t : List ℤ) (n : ℕ) (out : List ℤ) : Type 0 where
   pub region : Region s hs 4 (6 + rows)
-  pub few : rows ≤ 128
   pub polygon : Polygon s (look hs 4) 6 (scope.rest (scope.way s)) t n
   pub room : 675 ≤ length t
   pub out_room : 675 ≤ length out
 
 pub record BoundedIn (s : Plane) (hs : List ℤ) (rows : ℕ) (t : List ℤ) : Type 0 where
   pub region : Region s hs 4 (6 + rows)
-  pub few : rows ≤ 128
   pub room : 675 ≤ length t
 
 -- the bounds of n corners are written

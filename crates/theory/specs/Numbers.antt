@@ -1,8 +1,8 @@
 -- No refusal has the number 0, so 0 can stand for none.
 --     judge_number, lent_number, order_number   of a text, of lent tables, of an order
 --     merge_number, form_number, work_number    of a merge, of a normal form, and with a work table
-use Rattle.std.specs.Prelude.{◌≡◌, refl, Bool, true, false, cond, List, ℕ, ◌≤◌, leb, length}
-use Rattle.std.proofs.Common.{sym, ap, subst, ◌∙◌, arith}
+use Rattle.std.specs.Prelude.{◌≡◌, Bool, true, false, cond, List, ℕ, ◌≤◌, leb, length}
+use Rattle.std.proofs.Common.{arith}
 use Rattle.whole.specs.Tests.{differ}
 use Rattle.scope.specs.Limits.{most_planes}
 use Rattle.scope.specs.Solids.{Tree, planes, ascending, Tables, tables_of}

@@ -15,7 +15,7 @@ ghost use Rattle.walks.specs.Walks.{PlaneOfIn, StepIn, StepTold, SideIn, NodeIn,
 
 use cells::{Classified, classify, opposite, push};
 use planes::{Meeting, Plane};
-pub use rows::{IN_A, emit, ended as end_of, field, number_of, operated};
+pub use rows::{IN_A, emit, field, number_of, operated};
 use rows::{close, ended};
 use tables::Solid;
 

@@ -1,6 +1,4 @@
 -- `planes::coincident` meets its contract. Assumes nothing.
-use borrow.Author.Rules.{rules}
-use borrow.Author.Tests.{not-true, not-false}
 use mathlib.Core.Path.{◌≡◌, refl, sym, ◌∙◌}
 use mathlib.Core.Bool.{true, false}
 use Rattle.scope.specs.Planes.{in_range, coincident as the-coincident}

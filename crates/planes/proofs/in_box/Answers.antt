@@ -1,5 +1,4 @@
 -- `planes::in_box` meets its contract. Assumes nothing.
-use borrow.Author.Rules.{rules}
 use mathlib.Core.Path.{◌≡◌, sym, ◌∙◌}
 use mathlib.Core.Bool.{Bool}
 use lib.IntN.{ℤ}

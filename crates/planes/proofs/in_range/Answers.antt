@@ -1,5 +1,4 @@
 -- `planes::in_range` meets its contract. Assumes nothing.
-use borrow.Author.Rules.{rules}
 use mathlib.Core.Path.{sym, ◌∙◌}
 use lib.Dec.{leb}
 use lib.IntN.{nat_abs}

@@ -1,5 +1,4 @@
 -- `planes::lead` meets its contract. Assumes nothing.
-use borrow.Author.Rules.{rules}
 use Rattle.planes.proofs.Laws.{lead_by}
 use Rattle.planes.proofs.lead.Goals as goal
 

@@ -1,6 +1,4 @@
 -- `planes::meet_side` meets its contract. The fourth plane at the meeting is the 4×4 determinant (proofs/Meets). Assumes nothing.
-use borrow.Author.Rules.{rules}
-use borrow.Author.Tests.{not-true, not-false}
 use mathlib.Core.Path.{◌≡◌, refl, sym, ◌∙◌}
 use mathlib.Core.Bool.{true, false}
 use Rattle.whole.specs.Tests.{◌and◌}

@@ -1,5 +1,4 @@
 -- `planes::point_in_range` meets its contract. Assumes nothing.
-use borrow.Author.Rules.{rules}
 use mathlib.Core.Path.{◌≡◌, sym, ap, ◌∙◌}
 use mathlib.Core.Bool.{Bool}
 use lib.Dec.{leb}

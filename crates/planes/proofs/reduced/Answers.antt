@@ -1,5 +1,4 @@
 -- `planes::reduced` meets its contract. Assumes nothing.
-use borrow.Author.Rules.{rules}
 use Rattle.planes.proofs.Laws.{common_by}
 use Rattle.planes.proofs.reduced.Goals as goal
 

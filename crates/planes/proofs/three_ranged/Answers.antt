@@ -1,5 +1,4 @@
 -- `planes::three_ranged` meets its contract. Assumes nothing.
-use borrow.Author.Rules.{rules}
 use mathlib.Core.Path.{sym, ◌∙◌}
 use Rattle.planes.proofs.Laws.{and_yes, and_no}
 use Rattle.planes.proofs.three_ranged.Goals as goal

@@ -20,14 +20,14 @@ pub clip_on-m-requires : goal.clip_on-m-requires
 clip_on-m-requires c =
     let q = c.loop-i in
     let l : q.i < c.args.rows = omega (arith, c.loop-i-test.true) in
-    turn_clip (plane c.args.s) c.args.halves.now c.args.rows c.requires.region c.requires.few q.i l q.t q.m q.out q.invariant.3 (omega (arith, c.requires.room, q.invariant.1)) (omega (arith, c.requires.out_room, q.invariant.2))
+    turn_clip (plane c.args.s) c.args.halves.now c.args.rows c.requires.region q.i l q.t q.m q.out q.invariant.3 (omega (arith, c.requires.room, q.invariant.1)) (omega (arith, c.requires.out_room, q.invariant.2))
 
 pub returns-then-m-eq0 : goal.returns-then-m-eq0
 returns-then-m-eq0 c =
     let q = c.loop-i in
     let d = c.clip_on-m in
     let l : q.i < c.args.rows = omega (arith, c.loop-i-test.true) in
-    turn_gone (plane c.args.s) c.args.halves.now c.args.rows c.requires.region c.requires.few q.i l q.t q.m q.out q.invariant.3 (omega (arith, c.requires.room, q.invariant.1)) (omega (arith, c.requires.out_room, q.invariant.2)) d.new.t d.result d.ensures c.if-m-eq0.true
+    turn_gone (plane c.args.s) c.args.halves.now c.args.rows c.requires.region q.i l q.t q.m q.out q.invariant.3 (omega (arith, c.requires.room, q.invariant.1)) (omega (arith, c.requires.out_room, q.invariant.2)) d.new.t d.result d.ensures c.if-m-eq0.true
 
 pub loop-i-smaller : goal.loop-i-smaller
 loop-i-smaller c = omega (arith, c.loop-i-test.true)
@@ -37,7 +37,7 @@ loop-i-preserved c =
     let q = c.loop-i in
     let d = c.clip_on-m in
     let l : q.i < c.args.rows = omega (arith, c.loop-i-test.true) in
-    (omega arith, d.auto.t ∙ q.invariant.1, d.auto.out ∙ q.invariant.2, turn_more (plane c.args.s) c.args.halves.now c.args.rows c.requires.region c.requires.few q.i l q.t q.m q.out q.invariant.3 (omega (arith, c.requires.room, q.invariant.1)) (omega (arith, c.requires.out_room, q.invariant.2)) d.new.t d.result d.ensures)
+    (omega arith, d.auto.t ∙ q.invariant.1, d.auto.out ∙ q.invariant.2, turn_more (plane c.args.s) c.args.halves.now c.args.rows c.requires.region q.i l q.t q.m q.out q.invariant.3 (omega (arith, c.requires.room, q.invariant.1)) (omega (arith, c.requires.out_room, q.invariant.2)) d.new.t d.result d.ensures)
 
 pub returns : goal.returns
 returns c =

@@ -31,7 +31,6 @@ pub bounded-n-requires : goal.bounded-n-requires
 bounded-n-requires c =
     record {
       region = region_rows (plane c.args.s) c.args.halves.now (length c.args.halves.now / 4) c.if-rows-gt-MOST_HALVES.false (omega arith) (said_yes _ c.all_lawful.ensures c.in-Yes.is);
-      few = c.if-rows-gt-MOST_HALVES.false;
       room = omega (arith, c.if-work-lt-WORK.false);
     }
 

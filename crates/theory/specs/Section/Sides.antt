@@ -5,7 +5,7 @@
 --     at_weight       the plane whose value is a point's w
 --     inside_given, given_inside   a point strictly in the box and in each half-space is strictly inside each of them, and back if its w is positive
 --     section_given   each bound of a section is one of them
-use Rattle.std.specs.Prelude.{◌≡◌, refl, Bool, true, false, List, [], ◌∷◌, ◌++◌, ◌⊎◌, ◌+◌, T}
+use Rattle.std.specs.Prelude.{◌≡◌, refl, Bool, true, false, List, [], ◌∷◌, ◌++◌, ◌⊎◌, T}
 use Rattle.std.proofs.Common.{append_assoc, inl, inr}
 use Rattle.std.proofs.Math.IntN.{pos}
 use Rattle.whole.specs.Tests.{◌and◌, ◌or◌, and_split, or_split}

@@ -2,11 +2,11 @@
 --     filled_length, filled_more               a filled table's length, and entries stored after its entries
 --     planes_count, nodes_count, planes_end, nodes_end   the rows of planes and of nodes, one after the other, and one row more
 --     get_d_part                                an entry of the rows stored last
-use Rattle.std.specs.Prelude.{◌≡◌, refl, List, [], ◌∷◌, ◌++◌, ℕ, zero, suc, ◌+◌, ◌-◌, ◌*◌, ◌≤◌, ◌<◌, ℤ, pos, length, get_or, replicate, take, drop}
-use Rattle.std.proofs.Common.{sym, ap, ◌∙◌, append_assoc, append-nil, arith, length-append, get_or-append-add}
+use Rattle.std.specs.Prelude.{◌≡◌, refl, List, [], ◌∷◌, ◌++◌, ℕ, zero, suc, ◌+◌, ◌-◌, ◌*◌, ◌≤◌, length, get_or, replicate, drop}
+use Rattle.std.proofs.Common.{ap, ◌∙◌, append_assoc, arith, length-append, get_or-append-add}
 use Rattle.std.proofs.lemmas.List.{length-replicate}
 use Rattle.std.proofs.lemmas.List.Edits.{sets, sets-eq}
-use Rattle.std.proofs.Math.Seq.{take-append_seam, drop-append-add, drop-nil}
+use Rattle.std.proofs.Math.Seq.{take-append_seam, drop-append-add}
 use Rattle.scope.specs.Planes.{Plane}
 use Rattle.scope.specs.Solids.{Entry, entry}
 use Rattle.scope.specs.Answers.{flat_planes, flat_nodes, filled}

@@ -3,7 +3,7 @@
 --     lent_accepted, lent_taken       lent tables are taken exactly if they are those of lawful tables
 --     lent_as_text, lent_as_read      tables that can be written get the verdict of their text
 --     lent_frames, lent_refused, refused_lent   lent tables that are refused: the rule that their first bad line breaks
-use Rattle.std.specs.Prelude.{◌≡◌, refl, ◌⊎◌, ◌≢◌, ℕ, ◌*◌, ◌/◌, ◌≤◌, ◌<◌, leb, T, ℤ, Bool, not}
+use Rattle.std.specs.Prelude.{◌≡◌, refl, ◌⊎◌, ◌≢◌, ℕ, ◌/◌, ◌≤◌, ◌<◌, leb, T, ℤ, Bool, not}
 use Rattle.std.proofs.Math.Path.{sym, ap}
 use Rattle.std.proofs.Common.{◌∙◌, inl, inr, arith, le_refl, le→leb, leb→le}
 use mathlib.Core.List.{List, [], ◌∷◌}

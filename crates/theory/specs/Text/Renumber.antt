@@ -3,7 +3,7 @@
 --     kept_used            the planes that the rows use are the tree's plane list
 --     renumbered           a row's plane number in that list is the rank of its number before
 --     entries_renumbered   so the rows change to the tree's entries
-use Rattle.std.specs.Prelude.{◌≡◌, Bool, List, [], ◌∷◌, ◌++◌}
+use Rattle.std.specs.Prelude.{◌≡◌, Bool, List, [], ◌∷◌}
 use Rattle.std.proofs.Math.Path.{refl, sym, ap, subst}
 use Rattle.std.proofs.Common.{◌∙◌, arith}
 use Rattle.std.proofs.Math.Bool.{true, false, cond}
@@ -15,11 +15,11 @@ use Rattle.whole.specs.Tests.{is_true, is_false}
 use Rattle.whole.specs.Lists.{Each, Each.none, Each.◌and◌, each_app, each_map}
 use Rattle.whole.specs.Members.{◌∈◌, here, there, in_left, in_right}
 use Rattle.scope.specs.Planes.{Plane, equal}
-use Rattle.scope.specs.Solids.{Tree, leaf, node, rows, planes, post, ascending, place, Row, a_row, Entry, entry, entry_of, entries, number}
+use Rattle.scope.specs.Solids.{Tree, leaf, node, rows, planes, post, ascending, place, Row, a_row, Entry, entry, entries}
 use Rattle.scope.specs.Judging.{uses}
-use Rattle.theory.specs.Planes.Order.{Before, before_irrefl, equal_of, equal_self}
-use Rattle.theory.specs.Planes.Lists.{Ascending, empty, next, Same, ascending_one, ascending_law, ascending_same, place_at}
-use Rattle.theory.specs.Text.Uses.{uses_post, Used, post_uses}
+use Rattle.theory.specs.Planes.Order.{before_irrefl, equal_of, equal_self}
+use Rattle.theory.specs.Planes.Lists.{Ascending, empty, next, ascending_one, ascending_law, ascending_same, place_at}
+use Rattle.theory.specs.Text.Uses.{uses_post, post_uses}
 
 -- ---- kept planes, and ranks; g tells which numbers are kept, and k is the number of the first plane
 

@@ -1,10 +1,7 @@
 -- `zeros::clear` meets its contract. The invariant: i zeros, then what the table held. The measure is what is left of its length. Assumes nothing.
 use borrow.Author.Rules.{rules}
-use mathlib.Core.Path.{◌≡◌}
-use mathlib.Core.List.{◌++◌}
-use Prim.Native.Nat.{◌-◌, ◌≤◌}
 use native.Mathlib.Omega.{arith}
-use lib.ListN.{length, length-set, drop, replicate}
+use lib.ListN.{length-set}
 use lib.IntN.{pos}
 use Rattle.zeros.proofs.Fill.{fill_more, fill_all}
 use Rattle.zeros.proofs.clear.Goals as goal

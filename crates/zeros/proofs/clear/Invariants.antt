@@ -1,11 +1,8 @@
-use borrow.Author.Rules.{rules}
 use mathlib.Core.Path.{◌≡◌}
 use mathlib.Core.List.{◌++◌}
 use Prim.Native.Nat.{◌-◌, ◌≤◌}
-use native.Mathlib.Omega.{arith}
-use lib.ListN.{length, length-set, drop, replicate}
+use lib.ListN.{length, drop, replicate}
 use lib.IntN.{pos}
-use Rattle.zeros.proofs.Fill.{fill_more, fill_all}
 use Rattle.zeros.proofs.clear.Given as goal
 
 abbrev pub invariant-loop-i : goal.invariant-loop-i

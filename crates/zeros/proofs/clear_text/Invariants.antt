@@ -1,10 +1,7 @@
-use borrow.Author.Rules.{rules}
 use mathlib.Core.Path.{◌≡◌}
 use mathlib.Core.List.{◌++◌}
 use Prim.Native.Nat.{◌-◌, ◌≤◌}
-use native.Mathlib.Omega.{arith}
-use lib.ListN.{length, length-set, drop, replicate}
-use Rattle.zeros.proofs.Fill.{fill_more, fill_all}
+use lib.ListN.{length, drop, replicate}
 use Rattle.zeros.proofs.clear_text.Given as goal
 
 abbrev pub invariant-loop-k : goal.invariant-loop-k

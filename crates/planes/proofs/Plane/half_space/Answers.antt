@@ -1,6 +1,4 @@
 -- `planes::Plane::half_space` meets its contract. Each answer is the one that the two tests lead to (proofs/Told). Assumes nothing.
-use borrow.Author.Rules.{rules}
-use borrow.Author.Tests.{not-true, not-false}
 use mathlib.Core.Path.{refl}
 use mathlib.Core.Bool.{true, false}
 use mir.Facts.{to_z-of_z}

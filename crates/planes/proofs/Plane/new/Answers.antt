@@ -1,6 +1,4 @@
 -- `planes::Plane::new` meets its contract. Each answer is the one that the three tests lead to (proofs/Told). Assumes nothing.
-use borrow.Author.Rules.{rules}
-use borrow.Author.Tests.{not-true, not-false}
 use mathlib.Core.Path.{refl}
 use mathlib.Core.Bool.{true, false}
 use lib.Dec.{eqb}

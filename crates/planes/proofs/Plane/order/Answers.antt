@@ -1,5 +1,4 @@
 -- `planes::Plane::order` meets its contract. The first order that is not Same is that of `before` both ways (proofs/Sorted). Assumes nothing.
-use borrow.Author.Rules.{rules}
 use Rattle.whole.specs.Code.{back64}
 use Rattle.planes.proofs.Sorted.{order2_kept, order_told}
 use Rattle.planes.proofs.Plane.order.Goals as goal

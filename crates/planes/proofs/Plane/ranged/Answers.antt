@@ -1,5 +1,4 @@
 -- `planes::Plane::ranged` meets its contract. Assumes nothing.
-use borrow.Author.Rules.{rules}
 use Rattle.planes.proofs.Laws.{range_kept}
 use Rattle.planes.proofs.Plane.ranged.Goals as goal
 

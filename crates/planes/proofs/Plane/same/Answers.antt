@@ -1,5 +1,4 @@
 -- `planes::Plane::same` meets its contract. Two planes are equal exactly if their order is Same (proofs/Sorted). Assumes nothing.
-use borrow.Author.Rules.{rules}
 use mathlib.Core.Path.{sym, ap, ◌∙◌}
 use Rattle.planes.proofs.Sorted.{is_same, same_is}
 use Rattle.planes.proofs.Plane.same.Goals as goal

@@ -1,6 +1,4 @@
 -- `planes::Plane::side` meets its contract. Assumes nothing.
-use borrow.Author.Rules.{rules}
-use borrow.Author.Tests.{not-true, not-false}
 use mathlib.Core.Path.{◌≡◌, refl, sym, ap, ◌∙◌}
 use mathlib.Core.Bool.{true, false}
 use Rattle.whole.specs.Code.{back64}

@@ -1,6 +1,4 @@
 -- `planes::Point::new` meets its contract. In range, the box is that of each axis (proofs/Box). Assumes nothing.
-use borrow.Author.Rules.{rules}
-use borrow.Author.Tests.{not-true, not-false}
 use mathlib.Core.Path.{◌≡◌, refl, sym, ◌∙◌}
 use mathlib.Core.Bool.{Bool, true, false}
 use lib.IntN.{ℤ}

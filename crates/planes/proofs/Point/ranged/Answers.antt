@@ -1,5 +1,4 @@
 -- `planes::Point::ranged` meets its contract. Assumes nothing.
-use borrow.Author.Rules.{rules}
 use Rattle.planes.proofs.Laws.{point_kept}
 use Rattle.planes.proofs.Point.ranged.Goals as goal
 

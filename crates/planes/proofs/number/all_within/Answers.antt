@@ -1,5 +1,4 @@
 -- `planes::number::all_within` meets its contract. Assumes nothing.
-use borrow.Author.Rules.{rules}
 use mathlib.Core.Path.{sym, ◌∙◌}
 use Rattle.planes.proofs.Laws.{and_yes, and_no, said}
 use Rattle.planes.proofs.number.all_within.Goals as goal

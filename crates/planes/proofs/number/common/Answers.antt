@@ -1,8 +1,8 @@
 -- `planes::number::common` meets its contract. The invariant: the divisor of u and v is that of x and y. The measure: v, which falls to a remainder by itself. Assumes nothing.
-use mathlib.Core.Path.{◌≡◌, refl, sym, ◌∙◌}
+use mathlib.Core.Path.{refl, sym, ◌∙◌}
 use native.Mathlib.Nat.{mod-lt}
 use native.Mathlib.Omega.{arith}
-use Rattle.whole.specs.Gcd.{gcd, gcd_zero, gcd_step}
+use Rattle.whole.specs.Gcd.{gcd_zero, gcd_step}
 use Rattle.planes.proofs.number.common.Goals as goal
 
 pub loop-v-init : goal.loop-v-init

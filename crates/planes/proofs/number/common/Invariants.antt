@@ -1,7 +1,5 @@
-use mathlib.Core.Path.{◌≡◌, refl, sym, ◌∙◌}
-use native.Mathlib.Nat.{mod-lt}
-use native.Mathlib.Omega.{arith}
-use Rattle.whole.specs.Gcd.{gcd, gcd_zero, gcd_step}
+use mathlib.Core.Path.{◌≡◌}
+use Rattle.whole.specs.Gcd.{gcd}
 use Rattle.planes.proofs.number.common.Given as goal
 
 abbrev pub invariant-loop-v : goal.invariant-loop-v

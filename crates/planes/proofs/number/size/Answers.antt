@@ -7,7 +7,6 @@ use lib.Signed.{lt_z}
 use mir.Facts.{to_z-of_z}
 use Rattle.planes.proofs.Sizes.{sum_fits, minus_fits, minus_size, size_below, is_nonneg, abs_fits}
 use Rattle.planes.proofs.number.size.Lts as lts
-use Rattle.planes.proofs.number.size.Tie as tie
 use Rattle.planes.proofs.number.size.Reads as reads
 use Rattle.planes.proofs.number.size.Goals as goal
 

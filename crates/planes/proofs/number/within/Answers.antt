@@ -1,5 +1,4 @@
 -- `planes::number::within` meets its contract. Assumes nothing.
-use borrow.Author.Rules.{rules}
 use mathlib.Core.Path.{ap, ◌∙◌}
 use lib.Dec.{leb}
 use lib.IntN.{nat_abs}

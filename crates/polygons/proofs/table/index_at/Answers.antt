@@ -1,4 +1,4 @@
--- `polygons::table::index_at` meets its contract. An index is a number from 0 to 261. Assumes nothing.
+-- `polygons::table::index_at` meets its contract. An index is a number from 0 to 133. Assumes nothing.
 use Rattle.polygons.specs.Tables.{corner_at}
 use Rattle.polygons.proofs.Kept.{cast_index, cast_is}
 use Prim.Native.Nat.{◌*◌}

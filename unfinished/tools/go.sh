@@ -1,1 +1,0 @@
-bash /tmp/probe/build.sh ${2:-/tmp/probe/r} /tmp/bench/target/staticlib && cd /tmp/bench/outside && cargo build --release --offline --quiet --target-dir target 2>/dev/null; ./target/release/bench ${3:-merge} $1 | grep "^| [mn]" | cut -d'|' -f3,5-9
