@@ -1,7 +1,7 @@
 /* Reads document 01's A and B, merges them, writes the result, asks points, takes a section, makes the normal form, and shows what a
- * refusal leaves. At the repository's root, after `rt staticlib skopelyne`:
+ * refusal leaves. At the repository's root, after `rt lib skopelyne`:
  *
- *     cc -std=c99 -Wall -Wextra -O2 -o target/example outside/example.c target/staticlib/libskopelyne.a && target/example
+ *     cc -std=c99 -Wall -Wextra -O2 -o crates/skopelyne/out/example outside/example.c crates/skopelyne/out/libskopelyne.a && crates/skopelyne/out/example
  */
 #include "skopelyne.h"
 
