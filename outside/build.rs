@@ -1,4 +1,4 @@
-//! Links the proved library, which `rt lib skopelyne` writes.
+//! Links the proved library, which `rt lib` writes in `crates/skopelyne`.
 use std::path::Path;
 
 fn main() {
@@ -7,7 +7,7 @@ fn main() {
     let library = folder.join("libskopelyne.a");
     println!("cargo:rerun-if-changed={}", library.display());
     if !library.exists() {
-        eprintln!("The library crates/skopelyne/out/libskopelyne.a is missing: run `rt lib skopelyne` at the repository's root.");
+        eprintln!("The library crates/skopelyne/out/libskopelyne.a is missing: run `rt lib` in crates/skopelyne.");
         std::process::exit(1);
     }
     println!("cargo:rustc-link-search=native={}", folder.display());

@@ -11,5 +11,5 @@ need rt "install the Rattle toolchain, which README.md names."
 need cargo "install Rust 1.80 or later; nothing else is fetched."
 
 # what is built is told on standard error, so that standard output holds the results alone
-(cd "$outside/.." && rt lib skopelyne) >&2
+(cd "$outside/../crates/skopelyne" && rt lib) >&2
 (cd "$outside" && cargo build --release --offline --quiet --target-dir "$outside/target") >&2

@@ -1,5 +1,5 @@
 /* Reads document 01's A and B, merges them, writes the result, asks points, takes a section, makes the normal form, and shows what a
- * refusal leaves. At the repository's root, after `rt lib skopelyne`:
+ * refusal leaves. At the repository's root, after `rt lib` in crates/skopelyne:
  *
  *     cc -std=c99 -Wall -Wextra -O2 -o crates/skopelyne/out/example outside/example.c crates/skopelyne/out/libskopelyne.a && crates/skopelyne/out/example
  */
