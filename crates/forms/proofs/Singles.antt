@@ -20,7 +20,7 @@ use Rattle.tables.specs.declared.Judgement as Judgement
 use Rattle.tables.specs.declared.Solid.{Solid}
 use Rattle.tables.specs.Promises.{SolidOf, judgement}
 use Rattle.tables.proofs.Soundness.{rows_refused, rows_sound}
-use Rattle.results.specs.declared.Given as goal
+use Rattle.results.specs.declared.Given as Given
 use Rattle.results.specs.Results.{rooms, not_sound, ZerosIn}
 use Rattle.results.specs.Operands.{SoundIn}
 use Rattle.results.proofs.Calls.{nothing_held, enough}
@@ -43,20 +43,20 @@ module _ {bp : List ℤ} {bn : List ℕ} (ep : bp ≡ []) (en : bn ≡ []) where
   pub single_in : {pa : List ℤ} {na : List ℕ} {ra : ℕ} {xs : List ℤ} {ns : List ℕ} {path : List ℤ} → SingleIn pa na ra xs ns path → SoundIn 1 pa na ra bp bn 65534 xs ns path
   single_in h = record { operation = union; op_is = refl; first = h.tree; first_solid = h.solid; second = leaf OUT; second_solid = second_solid; zeros = h.zeros; path_room = h.path_room }
 
-  pub single_told : {pa : List ℤ} {na : List ℕ} {ra : ℕ} (xs : List ℤ) {xs' : List ℤ} (ns : List ℕ) {ns' : List ℕ} {r : goal.Given} → BothTold (record { op = 1; ar = ra; br = 65534 }) pa na bp bn xs xs' ns ns' r → SingleTold pa na ra xs xs' ns ns' r
+  pub single_told : {pa : List ℤ} {na : List ℕ} {ra : ℕ} (xs : List ℤ) {xs' : List ℤ} (ns : List ℕ) {ns' : List ℕ} {r : Given.Given} → BothTold (record { op = 1; ar = ra; br = 65534 }) pa na bp bn xs xs' ns ns' r → SingleTold pa na ra xs xs' ns ns' r
   single_told xs ns f A s a n = f union A (leaf OUT) s refl a second_solid (form_single a.lawful n)
 
 -- ---- the way to the answer
 
 module _ {work : ℕ} {pa : List ℤ} {na : List ℕ} {ra : ℕ} {xs xs' : List ℤ} {ns ns' : List ℕ} where
-  pub work_short : work < stated → JudgedTold work pa na ra xs xs' ns ns' (goal.TheVariants.Refused 8)
+  pub work_short : work < stated → JudgedTold work pa na ra xs xs' ns ns' (Given.TheVariants.Refused 8)
   work_short h = record { answer = refused 8; exact = short_work (λ t. subst T (lt-leb stated work h) t); outcome = nothing_held 8 }
 
   module _ (e : stated ≤ work) {i : Judgement.Judgement} (a : i ≡ judgement pa na ra (judge_lent (lent pa na ra))) where
-    pub solid_not : {k l : ℕ} → i ≡ Judgement.TheVariants.Refused k l → {r : goal.Given} → r ≡ not_sound i → JudgedTold work pa na ra xs xs' ns ns' r
+    pub solid_not : {k l : ℕ} → i ≡ Judgement.TheVariants.Refused k l → {r : Given.Given} → r ≡ not_sound i → JudgedTold work pa na ra xs xs' ns ns' r
     solid_not {k} d f = rw (f ∙ ap not_sound d) (record { answer = refused k; exact = enough_work (enough work e) (solid_refused (rows_refused pa na ra a d)); outcome = nothing_held k })
 
-    pub solid_sound : {s : Solid} {r : goal.Given} → i ≡ Judgement.TheVariants.Sound s → SingleTold pa na ra xs xs' ns ns' r → JudgedTold work pa na ra xs xs' ns ns' r
+    pub solid_sound : {s : Solid} {r : Given.Given} → i ≡ Judgement.TheVariants.Sound s → SingleTold pa na ra xs xs' ns ns' r → JudgedTold work pa na ra xs xs' ns ns' r
     solid_sound d f =
         let q = rows_sound pa na ra a d in
         let n = form q.held.lawful in

@@ -1,7 +1,7 @@
 -- The normal form, begun: a tree whose rows are the normal form's, and which is it when the point call answers ON for every boundary point.
 --     Right, Begun                             the mark of a leaf; the form begun
 --     child, reply_on, reply_side              a half of a row, and what the point call answers there
---     Under, under-..                          rows only ever become more, and a point that is ON stays so
+--     Under, under_..                          rows only ever become more, and a point that is ON stays so
 --     not_uniform, first_one                   a mixed cell is not uniform; a cell has one first plane
 --     begun_under                              the normal form has the rows that stand
 --     begun_normal, begun_form                 all boundary points are ON: the normal form

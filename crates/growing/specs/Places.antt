@@ -1,7 +1,7 @@
 -- The listed planes: the first that cuts a cell is the one of the normal form; and the place in the list from which on planes are asked.
 --     FirstOf, Among                          the first of some planes that cuts a cell
 --     Listing, first_listed, listed_first     a list of boundary planes before which no other comes: its first is the form's
---     RestOf, rest-..                         of the listed planes none but the rest cuts the cell
+--     RestOf, rest_..                         of the listed planes none but the rest cuts the cell
 --     place_start, place_pass, place_first    asked from place 0 on; the plane in a place misses the cell, or cuts it and is the first
 --     place_below                             below a row, from the place after it on
 --     place_own, place_found, rest_some      a plane that cuts the cell stands in a place still to be asked, so there is one

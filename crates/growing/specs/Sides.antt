@@ -1,9 +1,9 @@
 -- One plane p of a space that is an operation of two trees: a region is carried down the operands, and the marks in front of p and behind it are told.
---     Side, side-..                          on p, in the region, on a side of p: the walk of an operand goes on in a part of it
---     Level, level-..                        where an operand has one mark on both sides; spared: a tree without p has
+--     Side, side_..                          on p, in the region, on a side of p: the walk of an operand goes on in a part of it
+--     Level, level_..                        where an operand has one mark on both sides; spared: a tree without p has
 --     Operated, operated_both, -turned       the space is an operation of two trees, told in either order
 --     marks_told, marks_facet                both operands have told their marks: the space's, and, if the two differ, a facet
---     Same, same-..                          where the space has one mark on both sides there is no boundary point of p
+--     Same, same_..                          where the space has one mark on both sides there is no boundary point of p
 --     border_half                            a boundary point of p in a region that another plane parts is in a half
 use Rattle.std.specs.Prelude.{◌≡◌, refl, Bool, true, false, not, List, ◌∷◌, ◌≢◌, pos}
 use Rattle.std.proofs.Common.{sym, ap₂, subst, ◌∙◌}

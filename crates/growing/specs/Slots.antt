@@ -1,6 +1,6 @@
 -- The form that is begun, in its table: what a slot holds, the row in it with its two slots, and what a change below a slot did.
 --     Slot, slot_tree, slot_mark     the tree in a slot; its code tells whether it is a row or a mark
---     Grew, grew-..                  a change below a slot: rows only become more
+--     Grew, grew_..                  a change below a slot: rows only become more
 --     field_of, rows_of              the field and the row numbers of a side; a side's tree is Begun's child
 --     RowIn, slot_row, row_slot      the row in a slot, and the slots of its halves
 --     put_row, put_side              a half of it has grown: the row, and the slot above it

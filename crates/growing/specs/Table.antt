@@ -1,8 +1,8 @@
 -- The form as it grows in a table: three numbers a row, the place of its plane in the list and two codes; a code is a mark or a later row. A slot is field 1 or 2 of a row.
 --     Holds, holds_above, holds_rows     the tree that a slot holds, and the numbers of its rows
---     Effect, More, effect-..            what a change below one slot leaves as it was, and the rows that are new
+--     Effect, More, effect_..            what a change below one slot leaves as it was, and the rows that are new
 --     holds_kept, holds_longer           a change elsewhere, and a plane put at the end of the list
---     Made, made-..                      a leaf becomes a row
+--     Made, made_..                      a leaf becomes a row
 --     RowAt, put_front, put_back         the tree in front of a row, or behind it, is changed
 use Rattle.std.specs.Prelude.{◌≡◌, refl, List, [], ◌∷◌, ◌++◌, ◌≢◌, ◌⊎◌, ℕ, zero, suc, ◌+◌, ◌*◌, ◌≤◌, ◌<◌, length, get_or}
 use Rattle.std.proofs.Common.{sym, ap, subst, ◌∙◌, inl, inr, arith, length-append}

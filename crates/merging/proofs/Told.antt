@@ -20,7 +20,7 @@ use Rattle.tables.specs.declared.Judgement as Judgement
 use Rattle.tables.specs.declared.Solid.{Solid}
 use Rattle.tables.specs.Promises.{judgement}
 use Rattle.tables.proofs.Soundness.{rows_refused, rows_sound}
-use Rattle.results.specs.declared.Given as goal
+use Rattle.results.specs.declared.Given as Given
 use Rattle.results.specs.Results.{rooms, not_sound, ZerosIn}
 use Rattle.results.specs.Operands.{SoundIn}
 use Rattle.results.proofs.Calls.{nothing_held, enough}
@@ -54,22 +54,22 @@ is_not_known op {b} e f t = by b f (subst T (sym e) t)
     by false f t = t
 
 module _ {work op : ℕ} {pa : List ℤ} {na : List ℕ} {ra : ℕ} {pb : List ℤ} {nb : List ℕ} {rb : ℕ} {xs xs' : List ℤ} {ns ns' : List ℕ} where
-  pub work_short : work < stated → JudgedTold work op pa na ra pb nb rb xs xs' ns ns' (goal.TheVariants.Refused 8)
+  pub work_short : work < stated → JudgedTold work op pa na ra pb nb rb xs xs' ns ns' (Given.TheVariants.Refused 8)
   work_short h = record { answer = refused 8; exact = short_work (λ t. subst T (lt-leb stated work h) t); outcome = nothing_held 8 }
 
-  pub not_known : {t : Bool} → stated ≤ work → t ≡ known op → not t ≡ true → JudgedTold work op pa na ra pb nb rb xs xs' ns ns' (goal.TheVariants.Refused 7)
+  pub not_known : {t : Bool} → stated ≤ work → t ≡ known op → not t ≡ true → JudgedTold work op pa na ra pb nb rb xs xs' ns ns' (Given.TheVariants.Refused 7)
   not_known w e f = record { answer = refused 7; exact = enough_work (enough work w) (no_operation (is_not_known op e f)); outcome = nothing_held 7 }
 
-  pub a_not : {t : Bool} {i : Judgement.Judgement} {k l : ℕ} → stated ≤ work → t ≡ known op → not t ≡ false → i ≡ judgement pa na ra (judge_lent (lent pa na ra)) → i ≡ Judgement.TheVariants.Refused k l → {r : goal.Given} → r ≡ not_sound i → JudgedTold work op pa na ra pb nb rb xs xs' ns ns' r
+  pub a_not : {t : Bool} {i : Judgement.Judgement} {k l : ℕ} → stated ≤ work → t ≡ known op → not t ≡ false → i ≡ judgement pa na ra (judge_lent (lent pa na ra)) → i ≡ Judgement.TheVariants.Refused k l → {r : Given.Given} → r ≡ not_sound i → JudgedTold work op pa na ra pb nb rb xs xs' ns ns' r
   a_not {k = k} w eo to a e f = rw (f ∙ ap not_sound e) (record { answer = refused k; exact = enough_work (enough work w) (a_refused (is_known op eo to) (rows_refused pa na ra a e)); outcome = nothing_held k })
 
   module _ {t : Bool} (w : stated ≤ work) (eo : t ≡ known op) (to : not t ≡ false) {i j : Judgement.Judgement} (a : i ≡ judgement pa na ra (judge_lent (lent pa na ra))) {s : Solid} (ea : i ≡ Judgement.TheVariants.Sound s) (b : j ≡ judgement pb nb rb (judge_lent (lent pb nb rb))) where
-    pub b_not : {k l : ℕ} → j ≡ Judgement.TheVariants.Refused k l → {r : goal.Given} → r ≡ not_sound j → JudgedTold work op pa na ra pb nb rb xs xs' ns ns' r
+    pub b_not : {k l : ℕ} → j ≡ Judgement.TheVariants.Refused k l → {r : Given.Given} → r ≡ not_sound j → JudgedTold work op pa na ra pb nb rb xs xs' ns ns' r
     b_not {k} e f =
         let sa = rows_sound pa na ra a ea in
         rw (f ∙ ap not_sound e) (record { answer = refused k; exact = enough_work (enough work w) (b_refused sa.tree (is_known op eo to) sa.accepts (rows_refused pb nb rb b e)); outcome = nothing_held k })
 
-    pub both_sound : {u : Solid} {r : goal.Given} → j ≡ Judgement.TheVariants.Sound u → SoundTold op pa na ra pb nb rb xs xs' ns ns' r → JudgedTold work op pa na ra pb nb rb xs xs' ns ns' r
+    pub both_sound : {u : Solid} {r : Given.Given} → j ≡ Judgement.TheVariants.Sound u → SoundTold op pa na ra pb nb rb xs xs' ns ns' r → JudgedTold work op pa na ra pb nb rb xs xs' ns ns' r
     both_sound eb f =
         let o = operation_of op (is_known op eo to) in
         let sa = rows_sound pa na ra a ea in

@@ -1,5 +1,5 @@
 -- What each public call promises, in document 01's words: its answer is exactly the one that `scope`'s definitions give.
--- Each record has the field `exact`, which leaves no second answer. A definition `..-answer` gives document 01's number and values for each case of an enum.
+-- Each record has the field `exact`, which leaves no second answer. A definition `.._answer` gives document 01's number and values for each case of an enum.
 use Rattle.std.specs.Prelude.{◌≡◌, Bool, true, false, cond, ℤ, pos, ◌+ℤ◌, ◌-ℤ◌, ◌*ℤ◌}
 use Rattle.std.proofs.Math.Option.{Option, none, some}
 use Rattle.whole.specs.Vec.{V4, xyz, det3}

@@ -9,7 +9,7 @@
 --     tree_lawful, tables_tree (Trees)     the tree of lawful tables is lawful, and its tables are those tables
 --     text_length (Sizes)            the text of a lawful solid has at most 14,488 bytes
 -- Refusals
---     why, stops, one-number (Rules)         a line is refused with a number exactly if it breaks the rule of that number, and no other
+--     why, stops, one_number (Rules)         a line is refused with a number exactly if it breaks the rule of that number, and no other
 --     goes, takes, ends, finishes (Rules)    a line is taken exactly if it is by the rules
 --     judge_refused, refused_judge, refused_one (Refusals)   a text is refused with a number at a line exactly if its first bad line is that one
 --     bad_malformed, malformed_bad (Frames)  refusal 1: a character other than 0-9, A-F, an odd or empty line, a last line without LF
@@ -24,7 +24,7 @@
 -- For code
 --     lines_whole, lines_torn (Lines)              what a loop over characters meets
 --     step_sound, passed_sound, rows_outside (Reached)   what holds of every state that lines lead to
---     filled-more, planes_end, nodes_end (Filled)        tables filled row by row
+--     filled_more, planes_end, nodes_end (Filled)        tables filled row by row
 --     kept_used, entries_renumbered (Renumber)           rows streamed over a longer plane list, renumbered
 --     row_size, one_sizes (Counts), uses_end (Uses)      sizes of trees in place of trees, and which planes a row uses
 pub mod Hex

@@ -7,7 +7,7 @@ use Rattle.inputs.proofs.read_known.Goals.{then-op-eq0-via-then-op-eq0, then-op-
 pub returns-then-op-eq0 : goal.returns-then-op-eq0
 returns-then-op-eq0 c =
     let a = c.args in
-    elim c.then-op-eq0.branch [ then-op-eq0-via-then-op-eq0 w ↦ unknown a.text.now a.c.at a.op (none_is w.if-op-eq0.true) | then-op-eq0-via-else-op-eq0+then-op-gt3 w ↦ unknown a.text.now a.c.at a.op (over_is w.if-op-gt3.true) ]
+    elim c.then-op-eq0.branch [ then-op-eq0-via-then-op-eq0 w ↦ unknown a.text.now a.c.at a.op (none_is w.if-op-eq0.true) | then-op-eq0-via-else-op-eq0+then-op-gt3 w ↦ unknown a.text.now a.c.at a.op (over_is (omega (arith, w.if-op-gt3.true))) ]
 
 pub returns-in_default : goal.returns-in_default
 returns-in_default c =

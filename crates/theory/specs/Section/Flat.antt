@@ -1,7 +1,7 @@
 -- Flat geometry in homogeneous coordinates: points and lines are vectors of ℤ³. Nothing here speaks of document 01's planes; `Frames` brings the section to this ground.
 --     dt, cr, dv, ez        a line at a point; the point on two lines or the line through two points; the orientation of three points; the line whose value is a point's weight
 --     dv_swap, on_second, cramer, four, dt_sum   identities
---     Mix, mix-..           a point that is a combination of two others, with factors that are not negative
+--     Mix, mix_..           a point that is a combination of two others, with factors that are not negative
 --     Corner, Step          a vertex with the line of the edge that starts there; from a corner to the next
 --     Left, Weak            three corners that turn left; that do not turn right
 --     In, Out, Near, Up, Sees   of a corner: its vertex against a line, its weight; a point against its line
