@@ -1,9 +1,9 @@
 -- Points and bounds, as the code asks them.
 --     by_one, by_none            the two answers
---     low-.., high-..            the sums along an axis; box_low, box_high, box_none: the sides of the box that they tell of
+--     low_.., high_..            the sums along an axis; box_low, box_high, box_none: the sides of the box that they tell of
 --     holds_front, holds_on      a point in front of a half-space is in front of one that holds it; what holds a holder
---     at_row, row_is, link-..    the row that ends at a place, and its link
---     Asking, asking-..          rows asked last first, along their links
+--     at_row, row_is, link_..    the row that ends at a place, and its link
+--     Asking, asking_..          rows asked last first, along their links
 --     both_box, both_rows        sides of the box, and rows
 use mathlib.Core.Path.{◌≡◌, refl, sym, ap, subst, ◌∙◌}
 use mathlib.Core.Bool.{true, false}

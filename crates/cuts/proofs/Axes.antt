@@ -1,8 +1,8 @@
 -- Blocks: cells whose half-spaces all stand along the axes, with the coefficient 1 or -1.
---     lesser-.., along-..        the lesser of two numbers, and normals along an axis
+--     lesser_.., along_..        the lesser of two numbers, and normals along an axis
 --     axes, in_cell, cell_side   what holds of each side of a block
---     Narrowing, narrowing-..    the loop that narrows a block to the half-spaces of a path
---     low-.., high-.., middle-.. the sums of a place on an axis, and the middle of a block
+--     Narrowing, narrowing_..    the loop that narrows a block to the half-spaces of a path
+--     low_.., high_.., middle_.. the sums of a place on an axis, and the middle of a block
 --     block_witness              a point in the block of a path is in the cell of the path
 use mathlib.Core.Path.{◌≡◌, refl, sym, ap, subst, ◌∙◌}
 use mathlib.Core.Bool.{Bool, true, false}

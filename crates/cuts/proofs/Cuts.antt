@@ -1,7 +1,7 @@
 -- Whether a plane cuts the cell of a path: a polygon that is clipped only by bounds that its witness is not in front of.
 --     asked_of        what is asked: the remaining axis's two sides of the box, and the rows
 --     Cutting         the polygon of so many clips, each by another of these
---     cutting-..      the start, what the functions are given, one clip more, and the answers
+--     cutting_..      the start, what the functions are given, one clip more, and the answers
 use mathlib.Core.Path.{◌≡◌, refl, sym, ap, subst, ◌∙◌}
 use mathlib.Core.Logic.{◌≢◌, ◌⊎◌, inl, inr}
 use mathlib.Core.List.{List, [], ◌∷◌, ◌++◌}

@@ -1,7 +1,7 @@
 -- The line of two planes, and the point where a third meets it.
---     mixed-..        three products: the steps, what was handed on, and the sum negated
+--     mixed_..        three products: the steps, what was handed on, and the sum negated
 --     minor_read      a minor that was handed on
---     line-..         the line of two planes in range, and the meetings on it
+--     line_..         the line of two planes in range, and the meetings on it
 use mathlib.Core.Path.{◌≡◌, sym, ap, subst, ◌∙◌}
 use mathlib.Core.Bool.{true}
 use mathlib.Core.List.{List, [], ◌∷◌}

@@ -1,38 +1,30 @@
 -- `tables::judge_head` meets its contract: 3, then 6, then 8, by the three tests in that order. Assumes nothing.
-use mathlib.Core.Path.{◌≡◌, sym, ◌∙◌}
-use mathlib.Core.Bool.{true}
-use lib.Dec.{leb}
-use Rattle.whole.specs.Tests.{◌and◌}
-use Rattle.scope.specs.Limits.{most_planes, most_nodes}
-use Rattle.scope.specs.Judging.{Rooms, root_ok}
+use mathlib.Core.Path.{sym, ◌∙◌}
+use Prim.Native.Nat.{ℕ}
+use Rattle.scope.specs.Judging.{Rooms}
 use Rattle.tables.proofs.Heads.{head_over, head_root, head_room, head_fine}
-use Rattle.tables.proofs.judge_head.Lts as lts
-use Rattle.tables.proofs.judge_head.Tie as tie
-use Rattle.tables.proofs.judge_head.Reads as reads
 use Rattle.tables.proofs.judge_head.Goals as goal
 
 -- the rows lent
-abbrev rooms : (lts.Start tie.the-claims reads.Pre reads.Post) → Rooms
-rooms s = record { plane_rows = s.args.plane_rows; node_rows = s.args.node_rows }
-
--- within the limits, past the first test; and then the root code
-small : (c : lts.Else1 tie.the-claims reads.Pre reads.Post) → (leb c.args.n most_planes and leb c.args.m most_nodes) ≡ true
-small c = sym c.within-small.ensures ∙ c.if-not-small.false
-
-rooted : (c : lts.Else2 tie.the-claims reads.Pre reads.Post) → root_ok c.args.m c.args.root ≡ true
-rooted c = sym c.root_fits-rooted.ensures ∙ c.if-not-rooted.false
+abbrev rooms : ℕ → ℕ → Rooms
+rooms p n = record { plane_rows = p; node_rows = n }
 
 pub returns-then-not-small : goal.returns-then-not-small
-returns-then-not-small c = head_over (rooms c.before.before.before.before) c.args.n c.args.m c.args.root (sym c.within-small.ensures ∙ c.if-not-small.true)
+returns-then-not-small c =
+    let a = c.args in
+    head_over (rooms a.plane_rows a.node_rows) a.n a.m a.root (sym c.within-small.ensures ∙ c.if-not-small.true)
 
 pub returns-then-not-rooted : goal.returns-then-not-rooted
 returns-then-not-rooted c =
-    head_root (rooms c.before.before.before.before.before) c.args.n c.args.m c.args.root (small c.before) (sym c.root_fits-rooted.ensures ∙ c.if-not-rooted.true)
+    let a = c.args in
+    head_root (rooms a.plane_rows a.node_rows) a.n a.m a.root (sym c.within-small.ensures ∙ c.if-not-small.false) (sym c.root_fits-rooted.ensures ∙ c.if-not-rooted.true)
 
 pub returns-then-not-lent : goal.returns-then-not-lent
 returns-then-not-lent c =
-    head_room (rooms c.before.before.before.before.before.before) c.args.n c.args.m c.args.root (small c.before.before) (rooted c.before) (sym c.within-lent.ensures ∙ c.if-not-lent.true)
+    let a = c.args in
+    head_room (rooms a.plane_rows a.node_rows) a.n a.m a.root (sym c.within-small.ensures ∙ c.if-not-small.false) (sym c.root_fits-rooted.ensures ∙ c.if-not-rooted.false) (sym c.within-lent.ensures ∙ c.if-not-lent.true)
 
 pub returns : goal.returns
 returns c =
-    head_fine (rooms c.before.before.before.before.before.before) c.args.n c.args.m c.args.root (small c.before.before) (rooted c.before) (sym c.within-lent.ensures ∙ c.if-not-lent.false)
+    let a = c.args in
+    head_fine (rooms a.plane_rows a.node_rows) a.n a.m a.root (sym c.within-small.ensures ∙ c.if-not-small.false) (sym c.root_fits-rooted.ensures ∙ c.if-not-rooted.false) (sym c.within-lent.ensures ∙ c.if-not-lent.false)

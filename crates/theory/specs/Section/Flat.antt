@@ -5,7 +5,7 @@
 --     Corner, Step          a vertex with the line of the edge that starts there; from a corner to the next
 --     Left, Weak            three corners that turn left; that do not turn right
 --     In, Out, Near, Up, Sees   of a corner: its vertex against a line, its weight; a point against its line
---     edge-.., mix_out, mix_in   the line of an edge at a point; where a line leaves an edge, and where it enters
+--     edge_.., mix_out, mix_in   the line of an edge at a point; where a line leaves an edge, and where it enters
 use Rattle.std.specs.Prelude.{◌≡◌, [], ◌∷◌, ℤ, pos, neg_ℤ, ◌+ℤ◌, ◌-ℤ◌, ◌*ℤ◌}
 use Rattle.std.proofs.Common.{sym, ap, ◌∙◌}
 use Rattle.whole.specs.Expr.{#, ◌⊕◌, ◌⊖◌, ◌⊗◌, neg}
