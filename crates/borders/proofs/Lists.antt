@@ -1,15 +1,19 @@
 -- The list of the boundary planes, plane by plane.
 --     SoFar                              the boundary planes among the first i planes
---     so_far_none, so_far_next, so_far_all   before the first plane, one plane more, after the last
+--     so_far_none, passed_on, listed_on, so_far_all   before the first plane, one plane more, after the last
 --     Listing                            the loop's invariant
---     listing_none, next_in, room_in, listing_next, listing_all   its beginning, what the calls are given, a turn, its end
+--     listing_none, next_in, room_in, listing_hit, listing_miss, listing_all   its beginning, what a turn is given, a turn, its end
 use mathlib.Core.Path.{◌≡◌, refl, sym, ap, subst, ◌∙◌}
+use mathlib.Core.Bool.{Bool, true, false}
 use mathlib.Core.List.{List}
 use mathlib.Core.Logic.{inl, inr}
-use Prim.Native.Nat.{ℕ, zero, suc, ◌+◌, ◌-◌, ◌/◌, ◌≤◌, ◌<◌}
+use Prim.Native.Nat.{ℕ, ◌+◌, ◌/◌, ◌≤◌, ◌<◌}
 use native.Mathlib.Omega.{arith}
+use borrow.Author.Count.{below_more}
 use lib.IntN.{ℤ}
 use lib.ListN.{length, get_or, set, take}
+use Rattle.std.proofs.lemmas.Bool.Decides.{not_from_Decides}
+use Rattle.std.proofs.lemmas.List.{length-set}
 use lib.Seq.{get_or-set_same, get_or-set_other, get_or-take, length-take-le}
 use Rattle.whole.specs.Members.{◌∈◌, in_either}
 use Rattle.scope.specs.Planes.{Plane}
@@ -17,20 +21,12 @@ use Rattle.scope.specs.Solids.{Tree, planes}
 use Rattle.scope.specs.Cells.{Operation, operate}
 use Rattle.scope.specs.Normal.{Space, both, Boundary}
 use Rattle.tables.specs.Rows.{plane_at}
+use Rattle.walks.specs.declared.rows.Operands.{Operands}
 use Rattle.walks.specs.Standing.{list}
 use Rattle.borders.specs.declared.Pair.{Pair}
-use Rattle.borders.specs.declared.Found.{Found}
 use Rattle.borders.specs.Bounded.{PairIs, listed, Bounded}
-use Rattle.borders.specs.Sides.{Told, same, differ}
-use Rattle.borders.specs.Borders.{Members, BoundaryIn, BoundaryTold, Lists, BordersIn, BordersTold}
+use Rattle.borders.specs.Borders.{Members, BoundaryIn, BoundaryTold, BordersIn, BordersTold}
 use Rattle.borders.proofs.Rows.{list_length, member_row, own_row, stands_planes}
-
-up_to : {R : Type 0} (j k : ℕ) → j < k + 1 → (j < k → R) → (j ≡ k → R) → R
-up_to {R} j k l f g = go (k - j) refl
-  where
-    go : (n : ℕ) → k - j ≡ n → R
-    go zero e = g (omega (arith, e, l))
-    go (suc n) e = f (omega (arith, e))
 
 -- a plane of number n stands in a place before k
 record Placed (l : List ℕ) (k n : ℕ) : Type 0 where
@@ -50,32 +46,31 @@ module _ {S : Space} {xs : List ℤ} where
   so_far_none = record { small = λ j b. absurd (omega (arith, b)); are = λ j b. absurd (omega (arith, b)); rising = λ m n a b. absurd (omega (arith, b)); all = λ n b. absurd (omega (arith, b)) }
 
   -- plane i is no boundary plane
-  passed_on : {l : List ℕ} {k i : ℕ} → SoFar S xs l k i → ¬ Boundary S (plane_at xs i) → SoFar S xs l k (i + 1)
-  passed_on {i = i} h n = record {
+  pub passed_on : {l : List ℕ} {k i : ℕ} → SoFar S xs l k i → ¬ Boundary S (plane_at xs i) → SoFar S xs l k (i + 1)
+  passed_on {l} {k} {i} h n = record {
     small = λ j b. omega (arith, h.small j b);
     are = h.are;
     rising = h.rising;
-    all = λ m b d. up_to m i b (λ b. h.all m b d) (λ e. absurd (n (subst (λ m. Boundary S (plane_at xs m)) e d)));
+    all = below_more (λ m. Boundary S (plane_at xs m) → Placed l k m) i h.all (λ d. absurd (n d));
   }
 
   -- plane i is one, and is listed as the k-th
-  listed_on : {l : List ℕ} {k i : ℕ} → k < length l → SoFar S xs l k i → Boundary S (plane_at xs i) → SoFar S xs (set l k i) (k + 1) (i + 1)
+  pub listed_on : {l : List ℕ} {k i : ℕ} → k < length l → SoFar S xs l k i → Boundary S (plane_at xs i) → SoFar S xs (set l k i) (k + 1) (i + 1)
   listed_on {l} {k} {i} room h d = record {
-    small = λ j b. up_to j k b (λ b. omega (arith, old j b, h.small j b)) (λ e. omega (arith, new j e));
-    are = λ j b. up_to j k b (λ b. subst (λ n. Boundary S (plane_at xs n)) (sym (old j b)) (h.are j b)) (λ e. subst (λ n. Boundary S (plane_at xs n)) (sym (new j e)) d);
-    rising = λ m n a b. up_to n k b (λ b. omega (arith, old m (omega (arith, a, b)), old n b, h.rising m n a b)) (λ e. omega (arith, old m (omega (arith, a, e)), new n e, h.small m (omega (arith, a, e))));
-    all = λ n b f. up_to n i b (λ b. let q = h.all n b f in record { place = q.place; inside = omega (arith, q.inside); is = old q.place q.inside ∙ q.is }) (λ e. record { place = k; inside = omega arith; is = new k refl ∙ sym e });
+    small = below_more (λ j. get_or l' j 0 < i + 1) k (λ j b. omega (arith, old j b, h.small j b)) (omega (arith, new));
+    are = below_more (λ j. Boundary S (listed xs l' j)) k (λ j b. subst (λ n. Boundary S (plane_at xs n)) (sym (old j b)) (h.are j b)) (subst (λ n. Boundary S (plane_at xs n)) (sym new) d);
+    rising = λ m n a b. below_more (λ n. m < n → get_or l' m 0 < get_or l' n 0) k (λ n b a. omega (arith, old m (omega (arith, a, b)), old n b, h.rising m n a b)) (λ a. omega (arith, old m a, new, h.small m a)) n b a;
+    all = below_more (λ n. Boundary S (plane_at xs n) → Placed l' (k + 1) n) i (λ n b f. let q = h.all n b f in record { place = q.place; inside = omega (arith, q.inside); is = old q.place q.inside ∙ q.is }) (λ f. record { place = k; inside = omega arith; is = new });
   }
     where
-      old : (j : ℕ) → j < k → get_or (set l k i) j 0 ≡ get_or l j 0
+      l' : List ℕ
+      l' = set l k i
+
+      old : (j : ℕ) → j < k → get_or l' j 0 ≡ get_or l j 0
       old j b = get_or-set_other l k j i 0 (λ e. omega (arith, e, b))
 
-      new : (j : ℕ) → j ≡ k → get_or (set l k i) j 0 ≡ i
-      new j e = ap (λ j. get_or (set l k i) j 0) e ∙ get_or-set_same l k i 0 room
-
-  pub so_far_next : {l l' : List ℕ} {k i : ℕ} {z : Found} {r : ℕ} → k < length l → SoFar S xs l k i → Told (Boundary S (plane_at xs i)) z → Lists l l' k i z r → SoFar S xs l' r (i + 1)
-  so_far_next {k = k} {i = i} room h (same n) (Lists.passed e) = subst (λ l. SoFar S xs l k (i + 1)) (sym e) (passed_on h n)
-  so_far_next {k = k} {i = i} room h (differ d) (Lists.listed e) = subst (λ l. SoFar S xs l (k + 1) (i + 1)) (sym e) (listed_on room h d)
+      new : get_or l' k 0 ≡ i
+      new = get_or-set_same l k i 0 room
 
   -- every plane is asked
   pub so_far_all : {l : List ℕ} {k : ℕ} → k ≤ length l → SoFar S xs l k (length (list xs)) → ((q : Plane) → q ∈ S.list → q ∈ list xs) → Bounded S xs (take k l)
@@ -94,57 +89,60 @@ module _ {S : Space} {xs : List ℤ} where
 -- ---- the loop
 
 -- i planes are asked and k are listed; the tables are as long as they were
-pub record Listing (xs : List ℤ) (numbers a b : List ℕ) (pair : Pair) (path₀ first₀ second₀ : List ℤ) (boundary₀ : List ℕ) (path first second : List ℤ) (boundary : List ℕ) (k i : ℕ) : Type 0 where
+pub record Listing (o : Operands) (pair : Pair) (path₀ : List ℤ) (boundary₀ : List ℕ) (path : List ℤ) (boundary : List ℕ) (k i : ℕ) : Type 0 where
   pub few : k ≤ i
-  pub inside : i ≤ length xs / 4
+  pub inside : i ≤ length o.planes.now / 4
   pub path_long : length path ≡ length path₀
-  pub first_long : length first ≡ length first₀
-  pub second_long : length second ≡ length second₀
   pub boundary_long : length boundary ≡ length boundary₀
-  pub so_far : (o : Operation) (A B : Tree) → PairIs xs numbers a b pair o A B → Members xs A B → SoFar (both (operate o) A B) xs boundary k i
+  pub so_far : (q : Operation) (A B : Tree) → PairIs o pair q A B → Members o.planes.now A B → SoFar (both (operate q) A B) o.planes.now boundary k i
 
-module _ {xs : List ℤ} {numbers a b : List ℕ} {pair : Pair} {path₀ first₀ second₀ : List ℤ} {boundary₀ : List ℕ} (h : BordersIn xs numbers a b pair path₀ first₀ second₀ boundary₀) where
-  pub listing_none : Listing xs numbers a b pair path₀ first₀ second₀ boundary₀ path₀ first₀ second₀ boundary₀ 0 0
-  listing_none = record { few = omega arith; inside = omega arith; path_long = refl; first_long = refl; second_long = refl; boundary_long = refl; so_far = λ o A B pi ms. so_far_none }
+module _ {o : Operands} {pair : Pair} {path₀ : List ℤ} {boundary₀ : List ℕ} (h : BordersIn o pair path₀ boundary₀) where
+  pub listing_none : Listing o pair path₀ boundary₀ path₀ boundary₀ 0 0
+  listing_none = record { few = omega arith; inside = omega arith; path_long = refl; boundary_long = refl; so_far = λ q A B pi ms. so_far_none }
 
-  module _ {path first second : List ℤ} {boundary : List ℕ} {k i : ℕ} (l : Listing xs numbers a b pair path₀ first₀ second₀ boundary₀ path first second boundary k i) where
-    module _ (more : i < length xs / 4) where
-      pub next_in : BoundaryIn xs numbers a b pair path first second i
+  module _ {path : List ℤ} {boundary : List ℕ} {k i : ℕ} (l : Listing o pair path₀ boundary₀ path boundary k i) where
+    module _ (more : i < length o.planes.now / 4) where
+      pub next_in : BoundaryIn o pair path i
       next_in =
           let g = h.grounds in
           record {
-            grounds = record { lawful = g.lawful; few = g.few; path_room = omega (arith, l.path_long, g.path_room); first_room = omega (arith, l.first_long, g.first_room); second_room = omega (arith, l.second_long, g.second_room) };
-            own = own_row h.order i (omega (arith, more, list_length xs));
+            grounds = record { lawful = g.lawful; few = g.few; path_room = omega (arith, l.path_long, g.path_room) };
+            own = own_row h.order i (omega (arith, more, list_length o.planes.now));
             operation = h.operation;
             tree_a = h.tree_a;
             tree_b = h.tree_b;
             pair_is = h.pair_is;
           }
 
-      pub room_in : (k < length boundary) × (i < 65536)
-      room_in = (omega (arith, more, l.few, l.boundary_long, h.room, h.grounds.few, list_length xs), omega (arith, more, h.grounds.few, list_length xs))
+      pub room_in : (k < length boundary) × (i < 128)
+      room_in = (omega (arith, more, l.few, l.boundary_long, h.room, h.grounds.few, list_length o.planes.now), omega (arith, more, h.grounds.few, list_length o.planes.now))
 
-      pub listing_next : {path' first' second' : List ℤ} {boundary' : List ℕ} {z : Found} {r : ℕ} → length path' ≡ length path → length first' ≡ length first → length second' ≡ length second → length boundary' ≡ length boundary
-          → BoundaryTold xs numbers a b pair i z → Lists boundary boundary' k i z r → Listing xs numbers a b pair path₀ first₀ second₀ boundary₀ path' first' second' boundary' r (i + 1)
-      listing_next {boundary' = boundary'} {z = z} {r = r} ep ef es eb t n = record {
-        few = at_most n;
-        inside = omega (arith, more);
-        path_long = ep ∙ l.path_long;
-        first_long = ef ∙ l.first_long;
-        second_long = es ∙ l.second_long;
-        boundary_long = eb ∙ l.boundary_long;
-        so_far = λ o A B pi ms. so_far_next room_in.0 (l.so_far o A B pi ms) (t o A B pi ms) n;
-      }
-        where
-          at_most : {b b' : List ℕ} {z : Found} {r : ℕ} → Lists b b' k i z r → r ≤ i + 1
-          at_most (Lists.listed e) = omega (arith, l.few)
-          at_most (Lists.passed e) = omega (arith, l.few)
+      module _ {path' : List ℤ} (ep : length path' ≡ length path) {z : Bool} (t : BoundaryTold o pair i z) {boundary' : List ℕ} {k' : ℕ} where
+        pub listing_hit : z ≡ true → boundary' ≡ set boundary k i → k' ≡ k + 1 → Listing o pair path₀ boundary₀ path' boundary' k' (i + 1)
+        listing_hit e eb ek = record {
+          few = omega (arith, l.few, ek);
+          inside = omega (arith, more);
+          path_long = ep ∙ l.path_long;
+          boundary_long = ap length eb ∙ length-set boundary k i ∙ l.boundary_long;
+          so_far = λ q A B pi ms.
+              rw (eb, ek) (listed_on room_in.0 (l.so_far q A B pi ms) ((t q A B pi ms).0 e));
+        }
 
-    pub listing_all : length xs / 4 ≤ i → BordersTold xs numbers a b pair boundary k
+        pub listing_miss : z ≡ false → boundary' ≡ boundary → k' ≡ k → Listing o pair path₀ boundary₀ path' boundary' k' (i + 1)
+        listing_miss e eb ek = record {
+          few = omega (arith, l.few, ek);
+          inside = omega (arith, more);
+          path_long = ep ∙ l.path_long;
+          boundary_long = ap length eb ∙ l.boundary_long;
+          so_far = λ q A B pi ms.
+              rw (eb, ek) (passed_on (l.so_far q A B pi ms) (not_from_Decides z (t q A B pi ms) e));
+        }
+
+    pub listing_all : length o.planes.now / 4 ≤ i → BordersTold o pair boundary k
     listing_all end =
-        let e : i ≡ length (list xs) = omega (arith, end, l.inside, list_length xs) in
+        let e : i ≡ length (list o.planes.now) = omega (arith, end, l.inside, list_length o.planes.now) in
         record {
           few = omega (arith, e, l.few);
-          bounded = λ o A B pi ms. so_far_all (omega (arith, e, l.few, l.boundary_long, h.room, h.grounds.few)) (subst (SoFar (both (operate o) A B) xs boundary k) e (l.so_far o A B pi ms))
-              (λ q m. elim (in_either (planes A) (planes B) m) [ inl j ↦ stands_planes pi.first_stands q j | inr j ↦ stands_planes pi.second_stands q j ]);
+          bounded = λ q A B pi ms. so_far_all (omega (arith, e, l.few, l.boundary_long, h.room, h.grounds.few)) (subst (SoFar (both (operate q) A B) o.planes.now boundary k) e (l.so_far q A B pi ms))
+              (λ p m. elim (in_either (planes A) (planes B) m) [ inl j ↦ stands_planes pi.first_stands p j | inr j ↦ stands_planes pi.second_stands p j ]);
         }

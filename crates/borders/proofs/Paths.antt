@@ -2,28 +2,28 @@
 --     kept_fewer, kept_both      rows that stay
 --     cell_same                  a path with the same rows has the same cell
 --     rows_ranged                its half-spaces are in range
---     Laid, laid, laid_first               a half-space in the row after the cell's, and the cell with it (laid_cell, laid_ranged, laid_links)
+--     Laid, laid, laid_first     a half-space in the row after the cell's, and the cell with it (laid_cell, laid_ranged, laid_links)
 --     keep_asked                 what `keep` is given
---     CutSaid, cut_told          what the section of a plane says of a cell
+--     cut_said                   what the section of a plane says of a cell
 use mathlib.Core.Path.{◌≡◌, refl, sym, ap, ◌∙◌}
 use mathlib.Core.Bool.{true}
 use mathlib.Core.List.{List, [], ◌∷◌}
+use Rattle.std.specs.Prelude.{Option, is_some, Decides}
+use Rattle.std.proofs.lemmas.Bool.{false≢true}
 use Prim.Native.Nat.{ℕ, zero, suc, ◌+◌, ◌-◌, ◌*◌, ◌≤◌, ◌<◌}
 use native.Mathlib.Omega.{arith}
 use lib.IntN.{ℤ}
 use lib.ListN.{length}
 use Rattle.whole.specs.Members.{◌∈◌}
-use Rattle.whole.specs.Tests.{differ}
 use Rattle.scope.specs.Planes.{Plane, in_range, Lawful}
 use Rattle.scope.specs.Cells.{Cuts}
 use Rattle.theory.specs.Cells.Path.{OnKept, on_none, on_take}
 use Rattle.planes.specs.Values.{plane, meeting}
 use Rattle.planes.specs.declared.Plane as struct
 use Rattle.planes.specs.declared.Meeting.{Meeting}
-use Rattle.cuts.specs.declared.Witnessed.{Witnessed}
-use Rattle.cuts.specs.declared.Witnessed.TheVariants.{At, Nothing}
 use Rattle.polygons.specs.Tables.{row, rows_down}
-use Rattle.cuts.specs.Paths.{Linked, Links, CutTold, is_at, is_nothing}
+use Rattle.cuts.specs.Paths.{Linked, Links}
+use Rattle.cuts.specs.Paths.{CutTold, is_at, is_nothing}
 use Rattle.cells.specs.Paths.{PathIn, Pushed}
 use Rattle.cells.proofs.Paths.{half_ranged, row_same, linked_same, links_same, pushed_before, pushed_row, pushed_linked}
 use Rattle.borders.specs.Sides.{cell_at, Kept, nowhere}
@@ -118,11 +118,7 @@ laid_first e l is room = laid same_rows refl e l is room
 
 -- ---- the section
 
--- whether p cuts the cell, as `cut` answers it
-pub record CutSaid (p : Plane) (c : List Plane) (r : Witnessed) : Type 0 where
-  pub found : {m : Meeting} → r ≡ At m → Cuts p c
-  pub missed : r ≡ Nothing → ¬ Cuts p c
-
-pub cut_told : {p : Plane} {c : List Plane} {r : Witnessed} → CutTold p c r → CutSaid p c r
-cut_told (is_at {m = m} w) = record { found = λ f. record { point = meeting m; on = w.on; inside = w.inside }; missed = λ e. differ (cc) }
-cut_told (is_nothing n) = record { found = λ e. differ (cc); missed = λ e. n }
+-- whether p cuts the cell
+pub cut_said : {p : Plane} {c : List Plane} {r : Option Meeting} → CutTold p c r → Decides (is_some r) (Cuts p c)
+cut_said (is_at {m = m} w) = (λ e. record { point = meeting m; on = w.on; inside = w.inside }, λ u. refl)
+cut_said (is_nothing n) = (λ e. absurd (false≢true e), λ u. absurd (n u))

@@ -1,21 +1,26 @@
 -- The planes of the joined list, by their numbers.
 --     list_length           how many they are
---     row_elem              plane n
+--     row_elem, row_there, row_member   plane n: its numbers stand in the table, and it is in the list
 --     RowOf, member_row     the number of a plane
 --     own_row, own_small    in an ascending list a plane has one number
 --     stands_planes         the planes of a tree that stands in a table
-use mathlib.Core.Path.{◌≡◌, refl, sym, ap, subst, ◌∙◌}
+--     tree_lawful, both_general   they are lawful, and those of two trees in general position
+use mathlib.Core.Path.{◌≡◌, refl, sym, subst, ◌∙◌}
 use mathlib.Core.List.{List, [], ◌∷◌, ◌++◌}
 use mathlib.Core.Logic.{inl, inr}
 use mathlib.Core.Option.{some}
-use Prim.Native.Nat.{ℕ, zero, suc, ◌-◌, ◌/◌, ◌<◌}
+use Prim.Native.Nat.{ℕ, zero, suc, ◌+◌, ◌*◌, ◌/◌, ◌<◌}
 use native.Mathlib.Omega.{arith}
+use borrow.Author.Count.{below_more}
 use lib.IntN.{ℤ}
 use lib.ListN.{length, get_elem?, length-append}
 use Rattle.whole.specs.Members.{◌∈◌, here, there, in_either, elem_in, elem_small, in_elem}
-use Rattle.scope.specs.Planes.{Plane}
+use Rattle.scope.specs.Planes.{Plane, Lawful}
 use Rattle.scope.specs.Solids.{Tree, planes}
+use Rattle.theory.specs.Planes.Apart.{lawful_general}
+use Rattle.theory.specs.Planes.General.{General}
 use Rattle.theory.specs.Planes.Lists.{Ascending, place_of}
+use Rattle.theory.specs.Cells.Walk.{EachPlane}
 use Rattle.tables.specs.Rows.{plane_at, planes_to}
 use Rattle.walks.specs.Standing.{list, Stands, at_mark, at_row}
 use Rattle.borders.specs.Sides.{Own}
@@ -40,17 +45,20 @@ elem_end (p ∷ ps) q = elem_end ps q
 elem_row : (xs : List ℤ) (n i : ℕ) → i < n → get_elem? (planes_to xs n) i ≡ some (plane_at xs i)
 unfolding planes_to
 elem_row xs zero i l = absurd (omega (arith, l))
-elem_row xs (suc n) i l = go (n - i) refl (λ b. elem_row xs n i b)
-  where
-    go : (k : ℕ) → n - i ≡ k → (i < n → get_elem? (planes_to xs n) i ≡ some (plane_at xs i)) → get_elem? (planes_to xs n ++ (plane_at xs n ∷ [])) i ≡ some (plane_at xs i)
-    go zero e f =
-        let u : i ≡ length (planes_to xs n) = omega (arith, e, l, planes_length xs n) in
-        let v : n ≡ i = omega (arith, e, l) in
-        ap (get_elem? (planes_to xs n ++ (plane_at xs n ∷ []))) u ∙ elem_end (planes_to xs n) (plane_at xs n) ∙ ap (λ j. some (plane_at xs j)) v
-    go (suc k) e f = elem_left (planes_to xs n) (plane_at xs n ∷ []) i (omega (arith, e, planes_length xs n)) ∙ f (omega (arith, e))
+elem_row xs (suc n) i l =
+    let ps = planes_to xs n ++ (plane_at xs n ∷ []) in
+    below_more (λ i. get_elem? ps i ≡ some (plane_at xs i)) n
+    (λ i b. elem_left (planes_to xs n) (plane_at xs n ∷ []) i (omega (arith, b, planes_length xs n)) ∙ elem_row xs n i b)
+    (subst (λ m. get_elem? ps m ≡ some (plane_at xs n)) (planes_length xs n) (elem_end (planes_to xs n) (plane_at xs n))) i (omega (arith, l))
 
 pub row_elem : (xs : List ℤ) (i : ℕ) → i < length (list xs) → get_elem? (list xs) i ≡ some (plane_at xs i)
 row_elem xs i l = elem_row xs (length xs / 4) i (omega (arith, l, list_length xs))
+
+pub row_there : (xs : List ℤ) (i : ℕ) → i < length (list xs) → 4 * i + 3 < length xs
+row_there xs i l = omega (arith, l, list_length xs)
+
+pub row_member : (xs : List ℤ) (i : ℕ) → i < length (list xs) → plane_at xs i ∈ list xs
+row_member xs i l = elem_in (list xs) i (row_elem xs i l)
 
 -- the number of a plane of the list
 pub record RowOf (xs : List ℤ) (p : Plane) : Type 0 where
@@ -65,8 +73,9 @@ member_row {xs} {p} m =
     let e : some (plane_at xs i.0) ≡ some p = sym (row_elem xs i.0 l) ∙ i.1 in
     record { number = i.0; inside = l; is = cc }
 
+-- in an ascending list a plane has one number
 pub own_row : {xs : List ℤ} → Ascending (list xs) → (i : ℕ) → i < length (list xs) → Own xs i
-own_row {xs} a i l = record { there = omega (arith, l, list_length xs); member = elem_in (list xs) i (row_elem xs i l); place = place_of i a (row_elem xs i l) }
+own_row {xs} a i l = record { there = row_there xs i l; member = row_member xs i l; place = place_of i a (row_elem xs i l) }
 
 pub own_small : {xs : List ℤ} {i : ℕ} → Own xs i → i < length (list xs)
 own_small {xs} o = omega (arith, o.there, list_length xs)
@@ -76,3 +85,11 @@ pub stands_planes : {xs : List ℤ} {numbers ns : List ℕ} {o c : ℕ} {t : Tre
 stands_planes (at_mark m) p n = elim n [ ]
 stands_planes {xs} (at_row r u v) p (here e) = subst (λ q. q ∈ list xs) (sym e) r.member
 stands_planes {xs} (at_row {f = f} {b = b} r u v) p (there n) = elim (in_either (planes f) (planes b) n) [ inl i ↦ stands_planes u p i | inr i ↦ stands_planes v p i ]
+
+-- the planes of the list are lawful
+module _ {xs : List ℤ} (l : (p : Plane) → p ∈ list xs → Lawful p) where
+  pub tree_lawful : {numbers ns : List ℕ} {o c : ℕ} {t : Tree} → Stands xs numbers ns o c t → EachPlane Lawful t
+  tree_lawful s = record { each = λ p m. l p (stands_planes s p m) }
+
+  pub both_general : {numbers ns ms : List ℕ} {o c u d : ℕ} {A B : Tree} → Stands xs numbers ns o c A → Stands xs numbers ms u d B → General (planes A ++ planes B)
+  both_general {A = A} {B = B} x y = lawful_general (λ p m. elim (in_either (planes A) (planes B) m) [ inl i ↦ (tree_lawful x).each p i | inr i ↦ (tree_lawful y).each p i ])

@@ -10,14 +10,15 @@ use Rattle.scope.specs.Cells.{Operation}
 use Rattle.scope.specs.Normal.{Space, Boundary}
 use Rattle.scope.specs.Text.{operation_code}
 use Rattle.tables.specs.Rows.{plane_at}
+use Rattle.walks.specs.declared.rows.Operands.{Operands}
 use Rattle.walks.specs.Standing.{list, Stands}
 use Rattle.borders.specs.declared.Pair.{Pair}
 
 -- A and B stand at their root codes
-pub record PairIs (xs : List ℤ) (numbers a b : List ℕ) (t : Pair) (o : Operation) (A B : Tree) : Type 0 where
-  pub op_is : t.op ≡ operation_code o
-  pub first_stands : Stands xs numbers a 0 t.ar A
-  pub second_stands : Stands xs numbers b 64 t.br B
+pub record PairIs (o : Operands) (t : Pair) (q : Operation) (A B : Tree) : Type 0 where
+  pub op_is : t.op ≡ operation_code q
+  pub first_stands : Stands o.planes.now o.numbers.now o.a.now 0 t.ar A
+  pub second_stands : Stands o.planes.now o.numbers.now o.b.now 64 t.br B
 
 -- bs are numbers of planes in the joined list
 abbrev pub listed : List ℤ → List ℕ → ℕ → Plane

@@ -1,16 +1,16 @@
 -- The walk on a plane p, in tables: what its functions are given, and what they tell.
---     Told                          what Differ and Same say
 --     cell_at, OnPlane              the cell of the first rows of a path; they are the half-spaces that a walk on p kept
---     fronts, own_field, taken      which side is taken at rows of p itself
+--     front_code, own_field, taken  which side is taken at rows of p itself
 --     After, Differs                what is left to be done at a leaf, and below a tree: the marks of the two sides differ at some end
 --     Kept, nowhere                 the rows of a path that a call leaves as they are; the point of a row whose witness is not read
---     Own                           p by its number
+--     Own, Meets                    p by its number; p and the cell of a path
 --     Parts, PartsIn, PartsTold     on which sides of another plane p has points
---     walked, plane_of              the rows of the operand that is walked, and the plane of one
+--     plane_of                      the plane of a row
 --     Passes, PassIn, PassTold      how a row is passed
 --     FollowIn, staged, Follows, FollowTold   what follows a leaf
 --     Here, SideIn, NodeIn, Did     the walks
-use Rattle.std.specs.Prelude.{◌≡◌, Bool, true, false, List, ◌∷◌, ◌++◌, ◌≢◌, ℕ, zero, suc, ◌+◌, ◌*◌, ◌≤◌, ◌<◌, ℤ, pos, length, get_or}
+use Rattle.std.specs.Prelude as std
+use Rattle.std.specs.Prelude.{◌≡◌, Bool, true, false, Decides, Some, None, is_none, List, ◌∷◌, ◌++◌, ◌≢◌, ℕ, ◌+◌, ◌*◌, ◌≤◌, ◌<◌, ℤ, pos, length, get_or}
 use Rattle.std.proofs.Math.Option.{Option, none, some}
 use Rattle.whole.specs.Members.{◌∈◌}
 use Rattle.scope.specs.Planes.{Plane, flip, in_range, Lawful}
@@ -23,25 +23,18 @@ use Rattle.planes.specs.declared.Meeting.{Meeting}
 use Rattle.polygons.specs.Tables.{row, rows_down}
 use Rattle.cuts.specs.Paths.{Links}
 use Rattle.tables.specs.Rows.{plane_at}
-use Rattle.walks.specs.Standing.{rows_of, offset, list, plane_number, RowIs}
+use Rattle.walks.specs.declared.rows.Operands.{Operands}
+use Rattle.walks.specs.Standing.{offset, list, walked, number_at, RowIs}
 use Rattle.walks.specs.Marks.{turn_code}
 use Rattle.walks.specs.Walks.{Ground, StandsIn}
 use Rattle.borders.specs.declared.Stage.{Stage}
-use Rattle.borders.specs.declared.Found.{Found}
-use Rattle.borders.specs.declared.Found.TheVariants as found
 use Rattle.borders.specs.declared.Parted.{Parted}
 use Rattle.borders.specs.declared.Parted.TheVariants as parted
-use Rattle.borders.specs.declared.Passed.{Passed}
-use Rattle.borders.specs.declared.Passed.TheVariants as passed
 use Rattle.borders.specs.declared.Next.{Next}
 use Rattle.borders.specs.declared.Next.TheVariants as next
 use Rattle.borders.specs.Bounded.{PairIs}
 
--- ---- the answer, and the path
-
-pub data Told (X : Type 0) : Found → Type 0 where
-  differ : X → Told X found.Differ
-  same : ¬ X → Told X found.Same
+-- ---- the path
 
 -- the cell of the first rows of a path
 abbrev pub cell_at : List ℤ → ℕ → List Plane
@@ -65,17 +58,25 @@ pub record Own (xs : List ℤ) (n : ℕ) : Type 0 where
   pub member : plane_at xs n ∈ list xs
   pub place : place (list xs) (plane_at xs n) ≡ n
 
+-- plane n of the joined list has points of the cell of a path of half-spaces that a walk on it kept
+pub record Meets (xs : List ℤ) (n : ℕ) (path : List ℤ) (depth : ℕ) : Type 0 where
+  pub grounds : Ground xs path
+  pub own : Own xs n
+  pub on : OnPlane xs (plane_at xs n) path depth
+  pub links : Links path depth
+  pub cuts : Cuts (plane_at xs n) (cell_at path depth)
+
 -- ---- the four walks
 
--- p's front while no mark in front of it is known, else its back: of the code's number, and of the mark
-abbrev pub fronts : ℕ → Bool
-fronts zero = true
-fronts (suc f) = false
+-- the operation's mark in front of p, if it is known, as the code has it
+abbrev pub front_code : Option Mark → std.Option ℕ
+front_code none = None
+front_code (some f) = Some (number (mark f))
 
--- the entry of its code in the row
-abbrev pub own_field : ℕ → ℕ
-own_field zero = 1
-own_field (suc f) = 2
+-- p's front while no mark in front of it is known, else its back: the entry of its code in the row
+abbrev pub own_field : std.Option ℕ → ℕ
+own_field None = 1
+own_field (Some f) = 2
 
 abbrev pub taken : Option Mark → Bool
 taken none = true
@@ -99,7 +100,7 @@ pub data Parts (p q : Plane) (c : List Plane) : Parted → Type 0 where
   behind : ¬ Cuts p (q ∷ c) → Cuts p (flip q ∷ c) → Parts p q c parted.Behind
   both : Cuts p (q ∷ c) → Cuts p (flip q ∷ c) → Parts p q c parted.Both
 
-pub record PartsIn (p q : Plane) (path : List ℤ) (depth : ℕ) (first second : List ℤ) : Type 0 where
+pub record PartsIn (p q : Plane) (path : List ℤ) (depth : ℕ) : Type 0 where
   pub lawful : Lawful p
   pub other_lawful : Lawful q
   pub other : q ≢ p
@@ -108,40 +109,31 @@ pub record PartsIn (p q : Plane) (path : List ℤ) (depth : ℕ) (first second :
   pub ranged : (i : ℕ) → i < depth → in_range (row path 9 i) ≡ true
   pub links : Links path depth
   pub cuts : Cuts p (cell_at path depth)
-  pub first_room : 675 ≤ length first
-  pub second_room : 675 ≤ length second
 
 pub record PartsTold (p q : Plane) (path path' : List ℤ) (depth : ℕ) (r : Parted) : Type 0 where
   pub kept : Kept path path' depth
   pub parts : Parts p q (cell_at path depth) r
 
 -- a row of the plane q with the codes f and b, in the cell c; s is the side that is taken at a row of p itself
-pub data Passes (p q : Plane) (s : Bool) (c : List Plane) (f b : ℕ) : Passed → Type 0 where
-  own_front : q ≡ p → s ≡ true → Passes p q s c f b (passed.Code f)
-  own_back : q ≡ p → s ≡ false → Passes p q s c f b (passed.Code b)
-  in_front : q ≢ p → Cuts p (q ∷ c) → ¬ Cuts p (flip q ∷ c) → Passes p q s c f b (passed.Code f)
-  behind : q ≢ p → ¬ Cuts p (q ∷ c) → Cuts p (flip q ∷ c) → Passes p q s c f b (passed.Code b)
-  both : q ≢ p → Cuts p (q ∷ c) → Cuts p (flip q ∷ c) → Passes p q s c f b passed.Both
+pub data Passes (p q : Plane) (s : Bool) (c : List Plane) (f b : ℕ) : std.Option ℕ → Type 0 where
+  own_front : q ≡ p → s ≡ true → Passes p q s c f b (Some f)
+  own_back : q ≡ p → s ≡ false → Passes p q s c f b (Some b)
+  in_front : q ≢ p → Cuts p (q ∷ c) → ¬ Cuts p (flip q ∷ c) → Passes p q s c f b (Some f)
+  behind : q ≢ p → ¬ Cuts p (q ∷ c) → Cuts p (flip q ∷ c) → Passes p q s c f b (Some b)
+  both : q ≢ p → Cuts p (q ∷ c) → Cuts p (flip q ∷ c) → Passes p q s c f b None
 
--- the rows of the operand that is walked, and the plane of one
-abbrev pub walked : List ℕ → List ℕ → Stage → List ℕ
-walked a b t = rows_of t.mark a b
+-- the plane of a row
+abbrev pub plane_of : Operands → Stage → ℕ → Plane
+plane_of o t r = plane_at o.planes.now (number_at o t.mark r)
 
-abbrev pub plane_of : List ℤ → List ℕ → List ℕ → List ℕ → Stage → ℕ → Plane
-plane_of xs numbers a b t r = plane_at xs (plane_number numbers (offset t.mark) (walked a b t) r)
-
-pub record PassIn (xs : List ℤ) (numbers a b : List ℕ) (t : Stage) (path : List ℤ) (depth : ℕ) (first second : List ℤ) (r : ℕ) : Type 0 where
-  pub grounds : Ground xs path first second
-  pub own : Own xs t.plane
+pub record PassIn (o : Operands) (t : Stage) (path : List ℤ) (depth : ℕ) (r : ℕ) : Type 0 where
+  pub meets : Meets o.planes.now t.plane path depth
   pub plane : Plane
-  pub row : RowIs xs numbers (walked a b t) (offset t.mark) r plane
-  pub on : OnPlane xs (plane_at xs t.plane) path depth
-  pub links : Links path depth
-  pub cuts : Cuts (plane_at xs t.plane) (cell_at path depth)
+  pub row : RowIs o.planes.now o.numbers.now (walked o t.mark) (offset t.mark) r plane
 
-pub record PassTold (xs : List ℤ) (numbers a b : List ℕ) (t : Stage) (path path' : List ℤ) (depth r : ℕ) (z : Passed) : Type 0 where
+pub record PassTold (o : Operands) (t : Stage) (path path' : List ℤ) (depth r : ℕ) (z : std.Option ℕ) : Type 0 where
   pub kept : Kept path path' depth
-  pub passes : Passes (plane_at xs t.plane) (plane_of xs numbers a b t r) (fronts t.front) (cell_at path depth) (get_or (walked a b t) (3 * r + 1) 0) (get_or (walked a b t) (3 * r + 2) 0) z
+  pub passes : Passes (plane_at o.planes.now t.plane) (plane_of o t r) (is_none t.front) (cell_at path depth) (get_or (walked o t.mark) (3 * r + 1) 0) (get_or (walked o t.mark) (3 * r + 2) 0) z
 
 -- ---- one leaf
 
@@ -151,53 +143,49 @@ pub record FollowIn (t : Stage) (m : ℕ) : Type 0 where
   pub turn : Option Mark
   pub met : Mark
   pub op_is : t.pair.op ≡ operation_code operation
-  pub front_is : t.front ≡ turn_code front
+  pub front_is : t.front ≡ front_code front
   pub turn_is : t.mark ≡ turn_code turn
   pub met_is : m ≡ number (mark met)
 
 -- the stage with another mark of A's leaf and another mark in front
-abbrev pub staged : Stage → ℕ → ℕ → Stage
+abbrev pub staged : Stage → ℕ → std.Option ℕ → Stage
 staged t m f = record { pair = t.pair; plane = t.plane; mark = m; front = f }
 
 pub data Follows (o : Operation) (t : Stage) : Option Mark → Option Mark → Mark → Next → Type 0 where
-  to_b : (f : Option Mark) (x : Mark) → Follows o t f none x (next.Walk (staged t (number (mark x)) (turn_code f)) t.pair.br)
-  to_backs : (a x : Mark) → Follows o t none (some a) x (next.Walk (staged t 0 (number (mark (operate o a x)))) t.pair.ar)
-  at_end : (f a x : Mark) {z : Found} → Told (f ≢ operate o a x) z → Follows o t (some f) (some a) x (next.Done z)
+  to_b : (f : Option Mark) (x : Mark) → Follows o t f none x (next.Walk (staged t (number (mark x)) (front_code f)) t.pair.br)
+  to_backs : (a x : Mark) → Follows o t none (some a) x (next.Walk (staged t 0 (Some (number (mark (operate o a x))))) t.pair.ar)
+  at_end : (f a x : Mark) {z : Bool} → Decides z (f ≢ operate o a x) → Follows o t (some f) (some a) x (next.Done z)
 
 abbrev pub FollowTold : Stage → ℕ → Next → Type 0
-FollowTold t m r = (o : Operation) (f k : Option Mark) (x : Mark) → t.pair.op ≡ operation_code o → t.front ≡ turn_code f → t.mark ≡ turn_code k → m ≡ number (mark x) → Follows o t f k x r
+FollowTold t m r = (o : Operation) (f k : Option Mark) (x : Mark) → t.pair.op ≡ operation_code o → t.front ≡ front_code f → t.mark ≡ turn_code k → m ≡ number (mark x) → Follows o t f k x r
 
 -- ---- the walks
 
 -- an operation of two trees, where the four walks are, and at which tree
-pub record Here (xs : List ℤ) (numbers a b : List ℕ) (t : Stage) (c : ℕ) : Type 0 where
+pub record Here (o : Operands) (t : Stage) (c : ℕ) : Type 0 where
   pub operation : Operation
   pub tree_a : Tree
   pub tree_b : Tree
-  pub pair_is : PairIs xs numbers a b t.pair operation tree_a tree_b
+  pub pair_is : PairIs o t.pair operation tree_a tree_b
   pub front : Option Mark
-  pub front_is : t.front ≡ turn_code front
+  pub front_is : t.front ≡ front_code front
   pub turn : Option Mark
   pub turn_is : t.mark ≡ turn_code turn
   pub tree : Tree
-  pub stands : StandsIn xs numbers a b t.mark c tree
+  pub stands : StandsIn o t.mark c tree
 
-pub record SideIn (xs : List ℤ) (numbers a b : List ℕ) (t : Stage) (path : List ℤ) (depth : ℕ) (first second : List ℤ) (c : ℕ) : Type 0 where
-  pub grounds : Ground xs path first second
-  pub own : Own xs t.plane
-  pub here : Here xs numbers a b t c
-  pub on : OnPlane xs (plane_at xs t.plane) path depth
-  pub links : Links path depth
-  pub cuts : Cuts (plane_at xs t.plane) (cell_at path depth)
+pub record SideIn (o : Operands) (t : Stage) (path : List ℤ) (depth : ℕ) (c : ℕ) : Type 0 where
+  pub meets : Meets o.planes.now t.plane path depth
+  pub here : Here o t c
 
 -- the row parts the plane
-pub record NodeIn (xs : List ℤ) (numbers a b : List ℕ) (t : Stage) (path : List ℤ) (depth : ℕ) (first second : List ℤ) (r : ℕ) : Type 0 where
-  pub side : SideIn xs numbers a b t path depth first second r
+pub record NodeIn (o : Operands) (t : Stage) (path : List ℤ) (depth : ℕ) (r : ℕ) : Type 0 where
+  pub side : SideIn o t path depth r
   pub row : r < 65534
-  pub other : plane_of xs numbers a b t r ≢ plane_at xs t.plane
-  pub front_cuts : Cuts (plane_at xs t.plane) (plane_of xs numbers a b t r ∷ cell_at path depth)
-  pub back_cuts : Cuts (plane_at xs t.plane) (flip (plane_of xs numbers a b t r) ∷ cell_at path depth)
+  pub other : plane_of o t r ≢ plane_at o.planes.now t.plane
+  pub front_cuts : Cuts (plane_at o.planes.now t.plane) (plane_of o t r ∷ cell_at path depth)
+  pub back_cuts : Cuts (plane_at o.planes.now t.plane) (flip (plane_of o t r) ∷ cell_at path depth)
 
-pub record Did (xs : List ℤ) (numbers a b : List ℕ) (t : Stage) (path path' : List ℤ) (depth c : ℕ) (r : Found) : Type 0 where
+pub record Did (o : Operands) (t : Stage) (path path' : List ℤ) (depth c : ℕ) (r : Bool) : Type 0 where
   pub kept : Kept path path' depth
-  pub told : (o : Operation) (A B : Tree) (f k : Option Mark) (w : Tree) → PairIs xs numbers a b t.pair o A B → t.front ≡ turn_code f → t.mark ≡ turn_code k → StandsIn xs numbers a b t.mark c w → Told (Differs o (plane_at xs t.plane) A B f k (cell_at path depth) w) r
+  pub told : (q : Operation) (A B : Tree) (f k : Option Mark) (w : Tree) → PairIs o t.pair q A B → t.front ≡ front_code f → t.mark ≡ turn_code k → StandsIn o t.mark c w → Decides r (Differs q (plane_at o.planes.now t.plane) A B f k (cell_at path depth) w)

@@ -3,14 +3,14 @@
 --     on_map, on_kept            of other planes; the kept half-spaces of the theory of cells
 --     on_stack, on_missed        the stack of the theory, and the side of a plane that misses the cell
 --     half_ranged                both sides of a plane in range are
---     four_same, get_d_before, put_row   four entries that stay, the entries before a store, and a stored row
+--     four_same, put_row         four entries that stay, and a stored row
 --     on_links                   each row has its link
---     link_none, link_past       the link of a row to be written
+--     link_past                  the link of a row to be written
 --     row_same, linked_same, links_same     rows and links of a table with the same rows
 --     pushed_before, pushed_row, pushed_linked   one row more: the rows before it, its half-space and its link
 --     on_same, on_push           a table with the same rows, and one row more
---     cut_asked, beside_asked, missed_asked   what `cut`, `parallel` and `missed` are given
---     row_at, found_row          the row that ends at a place, and one that a plane holds
+--     path_asked, cut_asked, missed_asked   what `parallel`, `cut` and `missed` are given
+--     on_inside                  a point of the cell is in front of each row
 --     classified_front, classified_behind   the answer, from a parallel half-space
 --     classified_cut, classified_missed     and from that of `cut`
 use mathlib.Core.Path.{◌≡◌, refl, sym, ap, subst, ◌∙◌}
@@ -21,10 +21,9 @@ use Prim.Native.Nat.{ℕ, zero, suc, ◌+◌, ◌-◌, ◌*◌, ◌≤◌, ◌<�
 use native.Mathlib.Omega.{arith}
 use lib.Dec.{T}
 use lib.IntN.{ℤ, pos, neg_ℤ}
-use lib.ListN.{length, get_or, set, length-set}
-use lib.Seq.{sets, get_or-set_same, get_or-set_other}
+use lib.ListN.{length, get_or}
+use lib.Seq.{sets}
 use mir.Syntax.{w64}
-use mir.Val.{to_z}
 use mir.Facts.{to_z-of_z}
 use Rattle.whole.specs.Expr.{#, neg}
 use Rattle.whole.specs.Solve.{nums}
@@ -34,9 +33,8 @@ use Rattle.whole.specs.Tests.{differ, is_true, is_false}
 use Rattle.whole.specs.Sign.{Sign, nought, sgn}
 use Rattle.whole.specs.Bounds.{w_neg}
 use Rattle.whole.specs.Members.{◌∈◌, in_left, in_right}
-use Rattle.scope.specs.Limits.{most_halves}
 use Rattle.scope.specs.Planes.{Plane, Point, at, flip, in_range, lead, equal, Lawful}
-use Rattle.whole.specs.Order.{◌⋖◌, pos_not_zero, neg_not_zero}
+use Rattle.whole.specs.Order.{◌⋖◌}
 use Rattle.scope.proofs.Points.{flip_back}
 use Rattle.scope.specs.Cells.{Inside, box, Cuts, AllFront}
 use Rattle.theory.specs.Cells.Box.{box_means}
@@ -48,34 +46,17 @@ use Rattle.theory.specs.Cells.Sides.{half}
 use Rattle.theory.specs.Cells.Path.{Kept, none, take}
 use Rattle.theory.specs.Cells.Classify.{Stack, bottom, push, taken, if_same, tell, Says, in_front, behind, tell_right}
 use Rattle.planes.specs.Values.{quad, plane, meeting}
-use Rattle.planes.specs.Bounds.{in_range_in}
 use Rattle.planes.specs.declared.Plane as struct
 use Rattle.planes.specs.declared.Meeting.{Meeting}
-use Rattle.cuts.specs.declared.Witnessed.{Witnessed}
-use Rattle.cuts.specs.declared.Witnessed.TheVariants.{At, Nothing as Missed}
-use Rattle.cells.specs.declared.Beside.TheVariants as beside
+use Rattle.std.specs.Prelude.{Some, None}
 use Rattle.polygons.specs.Tables.{four_at, row, rows_down}
-use Rattle.cuts.specs.Paths.{Holds, Linked, Links, Witness, CutIn, CutTold, is_at, is_nothing}
+use Rattle.cuts.specs.Paths.{Holds, Linked, Links, AsksRow, Witness, CutIn, CutTold, is_at, is_nothing}
+use Rattle.polygons.proofs.Cells.{get_d_sets_before, get_d_sets_at}
 use Rattle.polygons.proofs.Kept.{k}
-use Rattle.cuts.proofs.Asking.{holds_front, holds_on, row_in}
-use Rattle.cells.specs.Paths.{witness_at, PathIn, LinkTold, nine, Pushed, FoundRow, BesideTold, BesideIn, OnPath, at_box, below, Classes, is_cut, is_front, is_behind, own_side, by_sign, side_by, missed_by, MissedIn, ClassifyIn}
+use Rattle.cuts.proofs.Asking.{holds_front, holds_on, row_in, four_is}
+use Rattle.cells.specs.Paths.{witness_at, PathIn, LinkTold, nine, Pushed, OnPath, at_box, below, Classes, is_cut, is_front, is_behind, own_side, by_sign, side_by, missed_by, MissedIn, ClassifyIn, ClassifiedIn}
 use Rattle.cells.specs.declared.Classified.{Classified}
-use Rattle.cells.specs.declared.Beside as Beside
 use Rattle.cells.specs.declared.Classified.TheVariants.{Cut, Front, Behind}
-
--- ---- what is found beside a plane, told apart
-
-pub front_not_behind : {A : Type 0} → beside.Front ≡ beside.Behind → A
-front_not_behind e = differ (cc)
-
-pub behind_not_front : {A : Type 0} → beside.Behind ≡ beside.Front → A
-behind_not_front e = differ (cc)
-
-pub neither_not_front : {A : Type 0} → beside.Neither ≡ beside.Front → A
-neither_not_front e = differ (cc)
-
-pub neither_not_behind : {A : Type 0} → beside.Neither ≡ beside.Behind → A
-neither_not_behind e = differ (cc)
 
 -- ---- the rows of a path
 
@@ -162,20 +143,9 @@ four_same t u i f =
     let w = f (i + 3) (omega arith) (omega arith) in
     λ j. quad (x j) (y j) (z j) (w j)
 
-pub get_d_before : (vs l : List ℤ) (i j : ℕ) → j < i → get_or (sets l i vs) j (pos 0) ≡ get_or l j (pos 0)
-get_d_before [] l i j h = refl
-get_d_before (v ∷ vs) l i j h = get_d_before vs (set l i v) (suc i) j (omega arith) ∙ get_or-set_other l i j v (pos 0) (λ e. omega arith)
-
-get_d_at : (vs l : List ℤ) (i k j : ℕ) → k < length vs → i + length vs ≤ length l → i + k ≡ j → get_or (sets l i vs) j (pos 0) ≡ get_or vs k (pos 0)
-get_d_at [] l i k j h b e = absurd (omega arith)
-get_d_at (v ∷ vs) l i zero j h b e =
-    let f : j ≡ i = omega arith in
-    rw f (get_d_before vs (set l i v) (suc i) i (omega arith) ∙ get_or-set_same l i v (pos 0) (omega arith))
-get_d_at (v ∷ vs) l i (suc k) j h b e = get_d_at vs (set l i v) (suc i) k j (omega arith) (rw length-set (omega arith)) (omega arith)
-
 module _ (path : List ℤ) (d : ℕ) (h : struct.Plane) (m : Meeting) (n : ℤ) (l : d * 9 + 9 ≤ length path) where
   stored : (i j : ℕ) → i < 9 → d * 9 + i ≡ j → get_or (sets path (d * 9) (nine h m n)) j (pos 0) ≡ get_or (nine h m n) i (pos 0)
-  stored i j b e = get_d_at (nine h m n) path (d * 9) i j b (omega arith) e
+  stored i j b e = get_d_sets_at (nine h m n) path (d * 9) i j b (omega arith) e
 
   pub put_row : row (sets path (d * 9) (nine h m n)) 9 d ≡ plane h
   unfolding row
@@ -227,38 +197,30 @@ on_same {path = path} {path' = path'} (below {d = d} {c = c} h s g q e w l) f =
     let x = four_same path path' (d * 9 + 4) (λ j a b. f j (omega arith)) in
     below (on_same h (λ i l. f i (omega arith))) s g q (r ∙ e) (subst (Witness g c) (sym x) w) (linked_same f d (omega arith) l)
 
--- the link of a row to be written: past the row before it, if that one holds h, or none
-module _ {path : List ℤ} {d : ℕ} (a : PathIn path d) where
-  pub link_none : (h : Plane) → LinkTold path d h (to_z w64 (d * 9))
-  link_none h = record { to = d; back = omega arith; link = to_z-of_z {w = w64} {z = pos (d * 9)} (record { sfits = omega (arith, a.few) }); holds = λ j l b. absurd (omega arith) }
+-- the link of a row to be written: past the row before it, if that one holds h
+module _ {path : List ℤ} {d : ℕ} (a : PathIn path d) (o : 0 < d) where
+  pub link_past : {q h : Plane} → q ≡ four_at path (d * 9 - 9) → Holds q h → LinkTold path d h (k (get_or path (d * 9 - 1) (pos 0)))
+  link_past {q} {h} e f = record { to = l.to; back = omega (arith, l.back); link = kept; holds = λ j u v. go j u v (d - 1 - j) refl }
+    where
+      l : Linked path (d - 1)
+      l = a.links (d - 1) (omega arith)
 
-  module _ (o : 0 < d) where
-    pub half_is : four_at path (d * 9 - 9) ≡ row path 9 (d - 1)
-    unfolding row
-    half_is = let e : d * 9 - 9 ≡ (d - 1) * 9 = omega arith in ap (four_at path) e
+      kept : k (get_or path (d * 9 - 1) (pos 0)) ≡ pos (l.to * 9)
+      kept =
+          let p : d * 9 - 1 ≡ (d - 1) * 9 + 8 = omega arith in
+          ap (λ i. k (get_or path i (pos 0))) p ∙ ap k l.link ∙ to_z-of_z {w = w64} {z = pos (l.to * 9)} (record { sfits = omega (arith, l.back, a.few) })
 
-    pub link_past : {q h : Plane} → q ≡ four_at path (d * 9 - 9) → Holds q h → LinkTold path d h (k (get_or path (d * 9 - 1) (pos 0)))
-    link_past {q} {h} e f = record { to = l.to; back = omega (arith, l.back); link = kept; holds = λ j u v. go j u v (d - 1 - j) refl }
-      where
-        l : Linked path (d - 1)
-        l = a.links (d - 1) (omega arith)
+      last : Holds (row path 9 (d - 1)) h
+      last = subst (λ p. Holds p h) (e ∙ four_is path (d - 1) (omega arith)) f
 
-        kept : k (get_or path (d * 9 - 1) (pos 0)) ≡ pos (l.to * 9)
-        kept =
-            let p : d * 9 - 1 ≡ (d - 1) * 9 + 8 = omega arith in
-            ap (λ i. k (get_or path i (pos 0))) p ∙ ap k l.link ∙ to_z-of_z {w = w64} {z = pos (l.to * 9)} (record { sfits = omega (arith, l.back, a.few) })
-
-        last : Holds (row path 9 (d - 1)) h
-        last = subst (λ p. Holds p h) (e ∙ half_is) f
-
-        go : (j : ℕ) → l.to ≤ j → j < d → (n : ℕ) → d - 1 - j ≡ n → Holds (row path 9 j) h
-        go j u v zero g = let i : j ≡ d - 1 = omega (arith, g) in rw i last
-        go j u v (suc n) g = holds_on (l.holds j u (omega (arith, g))) last
+      go : (j : ℕ) → l.to ≤ j → j < d → (n : ℕ) → d - 1 - j ≡ n → Holds (row path 9 j) h
+      go j u v zero g = let i : j ≡ d - 1 = omega (arith, g) in rw i last
+      go j u v (suc n) g = holds_on (l.holds j u (omega (arith, g))) last
 
 -- one row more
 module _ {path path' : List ℤ} {d : ℕ} {h : struct.Plane} {m : Meeting} (p : Pushed path path' d h m) (l : d * 9 + 9 ≤ length path) where
   pub pushed_before : Same path path' d
-  pushed_before i b = ap (λ t. get_or t i (pos 0)) p.table ∙ get_d_before (nine h m p.number) path (d * 9) i b
+  pushed_before i b = ap (λ t. get_or t i (pos 0)) p.table ∙ get_d_sets_before (nine h m p.number) path (d * 9) i b
 
   pub pushed_row : row path' 9 d ≡ plane h
   pushed_row = ap (λ t. row t 9 d) p.table ∙ put_row path d h m p.number l
@@ -282,23 +244,12 @@ module _ {path path' : List ℤ} {d : ℕ} {h : struct.Plane} {m : Meeting} (p :
 lawful_lead : {p : Plane} → Lawful p → lead p ≢ nought
 lawful_lead l e = let f = l.normal in differ (cc)
 
-pub cut_asked : {p : Plane} {path : List ℤ} {depth : ℕ} {first second : List ℤ} → ClassifyIn p path depth first second → CutIn p path depth first second
-cut_asked {p} h = record {
-  support = is_true (in_range p) h.lawful.range;
-  normal = lawful_lead h.lawful;
-  few = h.few;
-  room = h.room;
-  ranged = on_ranged (λ q l. l) h.on;
-  links = on_links h.on;
-  first_room = h.first_room;
-  second_room = h.second_room;
-}
+module _ {p : Plane} {path : List ℤ} {depth : ℕ} (h : ClassifyIn p path depth) where
+  pub path_asked : PathIn path depth
+  path_asked = record { few = h.few; room = h.room; links = on_links h.on }
 
-pub beside_asked : {p : Plane} {path : List ℤ} {depth : ℕ} {first second : List ℤ} → ClassifyIn p path depth first second → BesideIn p path depth
-beside_asked {p} h = let a = ranged p h.lawful.range in record { ranged = record { a_in = a.a; b_in = a.b; c_in = a.c; d_in = a.d }; path_in = record { few = h.few; room = h.room; links = on_links h.on } }
-
-pub cut_beside : {p : Plane} {path : List ℤ} {depth : ℕ} {first second : List ℤ} → CutIn p path depth first second → BesideIn p path depth
-cut_beside {p} h = record { ranged = in_range_in {a = p.x} {b = p.y} {c = p.z} {d = p.w} h.support; path_in = record { few = h.few; room = h.room; links = h.links } }
+  pub cut_asked : CutIn p path depth
+  cut_asked = record { support = is_true (in_range p) h.lawful.range; normal = lawful_lead h.lawful; rows = record { path_in = path_asked; ranged = on_ranged (λ q l. l) h.on } }
 
 pub missed_asked : {p : Plane} {path : List ℤ} {d : ℕ} {c : List Plane} → Lawful p → OnPath Lawful path d c → d * 9 ≤ length path → MissedIn p path d
 missed_asked l at_box r = tt
@@ -310,51 +261,27 @@ missed_asked {p} l (below h s g k e w n) r =
 -- ---- a parallel half-space
 
 -- a point of the cell is in front of each row, and has a w above 0
-rows_inside : (path : List ℤ) (d : ℕ) {X : Point} → Inside (rows_down path 9 d ++ box) X → (pos 0 ⋖ X.w) × ((i : ℕ) → i < d → pos 0 ⋖ at (row path 9 i) X)
-rows_inside path d {X} w = ((box_means X (record { each = λ q m. w.each q (in_right (rows_down path 9 d) m) })).weight, λ j b. w.each (row path 9 j) (in_left box (row_in path d j b)))
-
 on_inside : {path : List ℤ} {d : ℕ} {c : List Plane} → OnPath Lawful path d c → {X : Point} → Inside c X → (pos 0 ⋖ X.w) × ((i : ℕ) → i < d → pos 0 ⋖ at (row path 9 i) X)
-on_inside {path} {d} {c} h {X} i = rows_inside path d (subst (λ l. Inside l X) (on_rows h) i)
+on_inside {path} {d} {c} h {X} i =
+    let w = subst (λ l. Inside l X) (on_rows h) i in
+    ((box_means X (record { each = λ q m. w.each q (in_right (rows_down path 9 d) m) })).weight, λ j b. w.each (row path 9 j) (in_left box (row_in path d j b)))
 
--- the row that ends at `end`, read as four numbers
-pub row_at : {path : List ℤ} {depth end left : ℕ} → depth ≤ most_halves → Links path depth → end ≡ left * 9 → left ≤ depth → 0 < end → four_at path (end - 9) ≡ row path 9 (left - 1)
-unfolding row
-row_at {path} {end = end} {left = left} f l e m o = let p : end - 9 ≡ (left - 1) * 9 = omega arith in ap (four_at path) p
+-- the row that is asked, and its half-space
+module _ {path : List ℤ} {d end from end' : ℕ} (r : AsksRow path end from end') (l : end ≤ d * 9) {h : Plane} (e : h ≡ four_at path from) where
+  held_front : {q : Plane} → Holds q h → {c : List Plane} → OnPath Lawful path d c → AllFront q c
+  held_front {q} f o X n = let w = on_inside o n in holds_front (subst (Holds q) (e ∙ four_is path r.i r.begins) f) X w.0 (w.1 r.i (omega (arith, r.begins, r.ends, l)))
 
-pub found_row : {q h : Plane} (path : List ℤ) {d i : ℕ} → i < d → h ≡ row path 9 i → Holds q h → FoundRow q path d
-found_row {q} path {i = i} l e h = record { i = i; below = l; holds = subst (Holds q) e h }
+  pub classified_front : {p : Plane} → Holds p h → ClassifiedIn p path d Front
+  classified_front f c o = is_front (held_front f o)
 
-module _ {p : Plane} {path : List ℤ} {d : ℕ} {r : Beside.Beside} (b : BesideTold p path d r) where
-  found_front : {q : Plane} → FoundRow q path d → {c : List Plane} → OnPath Lawful path d c → AllFront q c
-  found_front f h X i = let o = on_inside h i in holds_front f.holds X o.0 (o.1 f.i f.below)
-
-  -- a plane on one side of which a row keeps the cell does not cut it
-  held_front : {q : Plane} → FoundRow q path d → {X : Point} → Inside (rows_down path 9 d ++ box) X → pos 0 ⋖ at q X
-  held_front f {X} i = let o = rows_inside path d i in holds_front f.holds X o.0 (o.1 f.i f.below)
-
-  pub front_misses : r ≡ Beside.TheVariants.Front → ¬ Cuts p (rows_down path 9 d ++ box)
-  front_misses e k = pos_not_zero (held_front (b.front e) k.inside) k.on
-
-  pub behind_misses : r ≡ Beside.TheVariants.Behind → ¬ Cuts p (rows_down path 9 d ++ box)
-  behind_misses e k = neg_not_zero (flip_back p k.point (held_front (b.behind e) k.inside)) k.on
-
-  pub classified_front : r ≡ Beside.TheVariants.Front → (c : List Plane) → OnPath Lawful path d c → Classes p c Front
-  classified_front e c h = is_front (found_front (b.front e) h)
-
-  pub classified_behind : r ≡ Beside.TheVariants.Behind → (c : List Plane) → OnPath Lawful path d c → Classes p c Behind
-  classified_behind e c h = is_behind (λ X i. flip_back p X (found_front (b.behind e) h X i))
+  pub classified_behind : {p b : Plane} → b ≡ flip p → Holds b h → ClassifiedIn p path d Behind
+  classified_behind {p} g f c o = is_behind (λ X n. flip_back p X (held_front (subst (λ q. Holds q h) g f) o X n))
 
 -- ---- the answer of `cut`
 
-module _ {p : Plane} (path : List ℤ) (d : ℕ) (l : Lawful p) {r : Witnessed} (a : CutTold p (rows_down path 9 d ++ box) r) where
-  pub classified_cut : (m : Meeting) → r ≡ At m → (c : List Plane) → OnPath Lawful path d c → Classes p c (Cut m)
-  classified_cut m f c h = go (subst (CutTold p (rows_down path 9 d ++ box)) f a)
-    where
-      go : CutTold p (rows_down path 9 d ++ box) (At m) → Classes p c (Cut m)
-      go (is_at w) = is_cut (subst (λ b. Witness p b (meeting m)) (sym (on_rows h)) w)
+module _ {p : Plane} (path : List ℤ) (d : ℕ) (l : Lawful p) where
+  pub classified_cut : {m : Meeting} → CutTold p (rows_down path 9 d ++ box) (Some m) → ClassifiedIn p path d (Cut m)
+  classified_cut {m} (is_at w) c h = is_cut (subst (λ b. Witness p b (meeting m)) (sym (on_rows h)) w)
 
-  pub classified_missed : r ≡ Missed → {t : Classified} → t ≡ missed_by p path d → (c : List Plane) → OnPath Lawful path d c → Classes p c t
-  classified_missed f {t} e c h = go (subst (CutTold p (rows_down path 9 d ++ box)) f a)
-    where
-      go : CutTold p (rows_down path 9 d ++ box) Missed → Classes p c t
-      go (is_nothing n) = subst (Classes p c) (sym e) (on_missed h p l (subst (λ b. ¬ Cuts p b) (sym (on_rows h)) n))
+  pub classified_missed : CutTold p (rows_down path 9 d ++ box) None → {t : Classified} → t ≡ missed_by p path d → ClassifiedIn p path d t
+  classified_missed (is_nothing n) {t} e c h = subst (Classes p c) (sym e) (on_missed h p l (subst (λ b. ¬ Cuts p b) (sym (on_rows h)) n))

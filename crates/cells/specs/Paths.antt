@@ -1,26 +1,24 @@
 -- The path to a cell, in a table, and what a plane is to the cell.
 --     witness_at                 the witness in row i
 --     OnPath                     the first rows of a table are the kept half-spaces of a cell, each with the witness of its cut and its link
---     PathIn, LinkTold, Pushed   the link of a row to be written, and one row more
+--     LinkTold, Pushed           the link of a row to be written, and one row more
 --     Classes, ClassifiedIn     Cut, Front or Behind, as document 01's C.2 and C.3 have it
 --     own_side, side_by, missed_by   how the code tells the side of a plane that misses the cell
---     FoundRow, BesideTold       the side of a plane on which a half-space of the path keeps the cell
---     BelowIn, MissedIn, BesideIn, ClassifyIn  what the functions are given
+--     BelowIn, MissedIn, ClassifyIn   what the functions are given
 use Rattle.std.specs.Prelude.{◌≡◌, Bool, cond, List, [], ◌∷◌, ℕ, zero, suc, ◌+◌, ◌*◌, ◌≤◌, ◌<◌, ℤ, pos, length}
 use Rattle.std.proofs.lemmas.List.Edits.{sets}
 use Rattle.whole.specs.Sign.{Sign, minus, nought, plus, sgn}
 use Rattle.scope.specs.Limits.{most_halves}
-use Rattle.scope.specs.Planes.{Plane, Point, at, flip, equal, Lawful}
+use Rattle.scope.specs.Planes.{Plane, Point, at, equal, Lawful}
 use Rattle.scope.specs.Cells.{box, AllFront, AllBack}
 use Rattle.theory.specs.Cells.Sides.{half}
 use Rattle.planes.specs.Values.{plane, meeting}
-use Rattle.planes.specs.Bounds.{PlaneIn, SumIn}
+use Rattle.planes.specs.Bounds.{SumIn}
 use Rattle.planes.specs.declared.Plane as struct
 use Rattle.planes.specs.declared.Meeting.{Meeting}
 use Rattle.polygons.specs.Tables.{four_at, row}
-use Rattle.cuts.specs.Paths.{Holds, Linked, Links}
-pub use Rattle.cuts.specs.Paths.{Witness}
-use Rattle.cells.specs.declared.Beside as Beside
+use Rattle.cuts.specs.Paths.{Holds, Linked}
+pub use Rattle.cuts.specs.Paths.{PathIn, Witness}
 use Rattle.cells.specs.declared.Classified.{Classified}
 use Rattle.cells.specs.declared.Classified.TheVariants.{Cut, Front, Behind}
 
@@ -35,11 +33,6 @@ pub data OnPath (Q : Plane → Type 0) (path : List ℤ) : ℕ → List Plane �
   below : {d : ℕ} {c : List Plane} → OnPath Q path d c → (s : Bool) (g : Plane) → Q g → row path 9 d ≡ half s g → Witness g c (witness_at path d) → Linked path d → OnPath Q path (suc d) (half s g ∷ c)
 
 -- ---- one row more
-
-pub record PathIn (path : List ℤ) (depth : ℕ) : Type 0 where
-  pub few : depth ≤ most_halves
-  pub room : depth * 9 ≤ length path
-  pub links : Links path depth
 
 -- the link of row `depth` if h stands there
 pub record LinkTold (path : List ℤ) (depth : ℕ) (h : Plane) (l : ℤ) : Type 0 where
@@ -84,21 +77,7 @@ unfoldable pub missed_by : Plane → List ℤ → ℕ → Classified
 missed_by p path zero = by_sign (sgn p.w) Behind
 missed_by p path (suc d) = side_by p (row path 9 d) (witness_at path d)
 
--- a row that q holds
-pub record FoundRow (q : Plane) (path : List ℤ) (depth : ℕ) : Type 0 where
-  pub i : ℕ
-  pub below : i < depth
-  pub holds : Holds q (row path 9 i)
-
-pub record BesideTold (p : Plane) (path : List ℤ) (depth : ℕ) (r : Beside.Beside) : Type 0 where
-  pub front : r ≡ Beside.TheVariants.Front → FoundRow p path depth
-  pub behind : r ≡ Beside.TheVariants.Behind → FoundRow (flip p) path depth
-
 -- ---- what is given
-
-pub record BesideIn (p : Plane) (path : List ℤ) (depth : ℕ) : Type 0 where
-  pub ranged : PlaneIn p.x p.y p.z p.w
-  pub path_in : PathIn path depth
 
 -- row i stands in the table; the plane and the witness are small enough for their sum
 pub record BelowIn (p : Plane) (path : List ℤ) (i : ℕ) : Type 0 where
@@ -110,11 +89,9 @@ abbrev pub MissedIn : Plane → List ℤ → ℕ → Type 0
 MissedIn p path zero = Unit {0}
 MissedIn p path (suc d) = BelowIn p path d
 
-pub record ClassifyIn (p : Plane) (path : List ℤ) (depth : ℕ) (first second : List ℤ) : Type 0 where
+pub record ClassifyIn (p : Plane) (path : List ℤ) (depth : ℕ) : Type 0 where
   pub lawful : Lawful p
   pub few : depth ≤ most_halves
   pub room : depth * 9 ≤ length path
   pub cell : List Plane
   pub on : OnPath Lawful path depth cell
-  pub first_room : 675 ≤ length first
-  pub second_room : 675 ≤ length second

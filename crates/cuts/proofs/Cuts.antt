@@ -19,18 +19,15 @@ use Rattle.scope.specs.Section as scope
 use Rattle.theory.specs.Section.{corner, vertex, corners, witness, witness_corners, witness_bounds, rest_length, clips_none, clips_witness, clips_enough}
 use Rattle.theory.specs.Section.Sides.{inside_given, given_inside}
 use Rattle.theory.specs.Section.Witness.{added}
-use Rattle.whole.specs.Code.{in64}
-use Rattle.planes.specs.Values.{quad, meeting}
+use Rattle.planes.specs.Values.{meeting}
 use Rattle.planes.specs.declared.Meeting.{Meeting}
-use Rattle.cuts.specs.declared.Stopped.{Stopped}
-use Rattle.cuts.specs.declared.Witnessed.TheVariants.{At, Nothing as Missed}
+use Rattle.std.specs.Prelude.{Some, None}
 use Rattle.polygons.specs.Values.{way_code}
 use Rattle.polygons.specs.Tables.{look, corner_at, indices, rows_down}
 use Rattle.polygons.specs.Asked.{Region, Polygon, AddedIn, ClipIn, ClippedOn}
-use Rattle.cuts.specs.Paths.{axis_sides, StoppedBy, StopTold, Small, RowsIn, CutIn, CutTold, is_at, is_nothing}
+use Rattle.cuts.specs.Paths.{axis_sides, StoppedBy, Small, Placed, CutIn, CutTold, is_at, is_nothing}
 use Rattle.polygons.proofs.Clips.{indices_length, polygon_below, polygon_corner, polygon_vertex, true_T, clipped_polygon}
 use Rattle.polygons.proofs.Starts.{wider, polygon_nothing}
-use Rattle.polygons.proofs.Kept.{k}
 use Rattle.polygons.proofs.Starts.{between}
 
 -- ---- what is asked
@@ -66,15 +63,15 @@ pub record Cutting (s : Plane) (path : List ℤ) (depth : ℕ) (t : List ℤ) (n
   pub few : length fresh + i ≡ 2 + depth
   pub others : (h : Plane) → h ∈ asked_of s path depth → ¬ (h ∈ gs) → h ∈ fresh
 
-module _ {s : Plane} {path : List ℤ} {depth : ℕ} {first second : List ℤ} (a : CutIn s path depth first second) where
+module _ {s : Plane} {path : List ℤ} {depth : ℕ} (a : CutIn s path depth) where
   pub region_path : Region s path 9 (6 + depth)
   region_path = record {
     support = a.support;
     normal = a.normal;
     box = omega arith;
-    few = omega (arith, a.few);
-    found = λ k b c. omega (arith, a.room);
-    ranged = λ k b. between path 9 depth k a.ranged b;
+    few = omega (arith, a.rows.path_in.few);
+    found = λ k b c. omega (arith, a.rows.path_in.room);
+    ranged = λ k b. between path 9 depth k a.rows.ranged b;
   }
 
   pub cutting_first : (t : List ℤ) → Polygon s (look path 9) 6 [] t 4 → Cutting s path depth t 4 0
@@ -106,7 +103,7 @@ module _ {s : Plane} {path : List ℤ} {depth : ℕ} {first second : List ℤ} (
         go h (inl m) w = w.each h (in_left (asked_of s path depth) m)
         go h (inr m) w = w.each h (in_right (scope.start (scope.way s)) (g.among h m))
 
-    pub cutting_nothing : n ≡ 0 → CutTold s (rows_down path 9 depth ++ box) Missed
+    pub cutting_nothing : n ≡ 0 → CutTold s (rows_down path 9 depth ++ box) None
     cutting_nothing e = is_nothing (λ c. clips_none s g.gs a.normal (polygon_nothing s (look path 9) g.polygon e) c.point c.on (fewer c.inside))
 
     module _ (f : n ≡ 0 → ⊥) where
@@ -143,60 +140,57 @@ module _ {s : Plane} {path : List ℤ} {depth : ℕ} {first second : List ℤ} (
         small : Small (meeting m)
         small = subst Small (sym is_witness) bounds_small
 
-        -- its numbers read back from their bits
-        abbrev read_back : Point
-        read_back = quad (k m.x) (k m.y) (k m.z) (k m.w)
-
-        point_kept : read_back ≡ meeting m
-        point_kept = let s = small in cc (in64 s.x_size tt, in64 s.y_size tt, in64 s.z_size tt, in64 s.w_size tt)
-
-        pub cutting_rows : RowsIn path depth read_back
-        cutting_rows = subst (RowsIn path depth) (sym point_kept) (record { few = a.few; room = a.room; ranged = a.ranged; links = a.links; up = so.1; small = small })
+        pub cutting_placed : Placed (meeting m)
+        cutting_placed = record { up = so.1; small = small }
 
         -- w is the support's way as a number
-        pub cutting_told : {r : Stopped} (w : ℕ) → w ≡ way_code (scope.way s) → StopTold (look path 9) (axis_sides (w / 2) ++ rows_down path 9 depth) (6 + depth) read_back r → StopTold (look path 9) (asked_of s path depth) (6 + depth) (meeting m) r
-        cutting_told {r} w q h = subst (λ l. StopTold (look path 9) (l ++ rows_down path 9 depth) (6 + depth) (meeting m) r) (rest_sides s w q) (subst (λ X. StopTold (look path 9) (axis_sides (w / 2) ++ rows_down path 9 depth) (6 + depth) X r) point_kept h)
+        module _ {w : ℕ} (v : w ≡ way_code (scope.way s)) where
+          sides_asked : axis_sides (w / 2) ++ rows_down path 9 depth ≡ asked_of s path depth
+          sides_asked = ap (λ l. l ++ rows_down path 9 depth) (rest_sides s w v)
 
-        -- in front of all that is asked, it lies in the cell
-        pub cutting_at : ((h : Plane) → h ∈ asked_of s path depth → pos 0 ⋖ at h (meeting m)) → CutTold s (rows_down path 9 depth ++ box) (At m)
-        cutting_at f = is_at (record { on = so.0; inside = given_inside (scope.way s) (rows_down path 9 depth) so.1 (record { each = λ h i. go h (in_either (scope.start (scope.way s)) (asked_of s path depth) i) }); sized = small })
-          where
-            go : (h : Plane) → (h ∈ scope.start (scope.way s)) ⊎ (h ∈ asked_of s path depth) → pos 0 ⋖ at h (meeting m)
-            go h (inl i) = so.2.each h (in_left g.gs i)
-            go h (inr i) = f h i
-
-        -- a bound that it is not in front of is a new one
-        module _ {j : ℕ} (b : StoppedBy (look path 9) (asked_of s path depth) (6 + depth) (meeting m) j) where
-          pub new : ¬ (look path 9 j ∈ g.gs)
-          new i = lt_not_le (so.2.each (look path 9 j) (in_right (scope.start (scope.way s)) i)) b.behind
-
-          pub is_fresh : look path 9 j ∈ g.fresh
-          is_fresh = g.others (look path 9 j) b.member new
-
-          abbrev pub cutting_clip : (out : List ℤ) → 675 ≤ length t → 675 ≤ length out → ClipIn s path 9 j t n out
-          cutting_clip out l l' = record {
-            top = 6 + depth;
-            gs = g.gs;
-            region = region_path;
-            k_below = b.below;
-            polygon = g.polygon;
-            few = omega (arith, g.few, g.count, without_length g.fresh is_fresh, a.few);
-            room = l;
-            out_room = l';
-          }
-
-          pub cutting_more : (out : List ℤ) {t' : List ℤ} {r : ℕ} → 675 ≤ length t → 675 ≤ length out → ClippedOn s (look path 9) j t n t' r → Cutting s path depth t' r (i + 1)
-          cutting_more out {t'} {r} l l' q = record {
-            gs = g.gs ++ look path 9 j ∷ [];
-            polygon = clipped_polygon s path 9 j t n out (cutting_clip out l l') t' r q;
-            count = omega (arith, length-append g.gs (look path 9 j ∷ []), g.count);
-            among = λ h v. go h (in_either g.gs (look path 9 j ∷ []) v);
-            fresh = without g.fresh is_fresh;
-            few = omega (arith, g.few, without_length g.fresh is_fresh);
-            others = λ h v w. without_in g.fresh is_fresh (g.others h v (λ u. w (in_left (look path 9 j ∷ []) u))) (λ e. w (in_right g.gs (here e)));
-          }
+          -- in front of all that is asked, it lies in the cell
+          pub cutting_at : ((h : Plane) → h ∈ (axis_sides (w / 2) ++ rows_down path 9 depth) → pos 0 ⋖ at h (meeting m)) → CutTold s (rows_down path 9 depth ++ box) (Some m)
+          cutting_at f = is_at (record { on = so.0; inside = given_inside (scope.way s) (rows_down path 9 depth) so.1 (record { each = λ h i. go h (in_either (scope.start (scope.way s)) (asked_of s path depth) i) }); sized = small })
             where
-              go : (h : Plane) → (h ∈ g.gs) ⊎ (h ∈ (look path 9 j ∷ [])) → h ∈ asked_of s path depth
-              go h (inl v) = g.among h v
-              go h (inr (here e)) = subst (λ p. p ∈ asked_of s path depth) (sym e) b.member
-              go h (inr (there v)) = elim v [ ]
+              go : (h : Plane) → (h ∈ scope.start (scope.way s)) ⊎ (h ∈ asked_of s path depth) → pos 0 ⋖ at h (meeting m)
+              go h (inl i) = so.2.each h (in_left g.gs i)
+              go h (inr i) = f h (subst (λ l. h ∈ l) (sym sides_asked) i)
+
+          -- a bound that it is not in front of is a new one
+          module _ {j : ℕ} (b : StoppedBy (look path 9) (axis_sides (w / 2) ++ rows_down path 9 depth) (6 + depth) (meeting m) j) where
+            asked : look path 9 j ∈ asked_of s path depth
+            asked = subst (λ l. look path 9 j ∈ l) sides_asked b.member
+
+            pub new : ¬ (look path 9 j ∈ g.gs)
+            new i = lt_not_le (so.2.each (look path 9 j) (in_right (scope.start (scope.way s)) i)) b.behind
+
+            pub is_fresh : look path 9 j ∈ g.fresh
+            is_fresh = g.others (look path 9 j) asked new
+
+            abbrev pub cutting_clip : (out : List ℤ) → 675 ≤ length t → 675 ≤ length out → ClipIn s path 9 j t n out
+            cutting_clip out l l' = record {
+              top = 6 + depth;
+              gs = g.gs;
+              region = region_path;
+              k_below = b.below;
+              polygon = g.polygon;
+              few = omega (arith, g.few, g.count, without_length g.fresh is_fresh, a.rows.path_in.few);
+              room = l;
+              out_room = l';
+            }
+
+            pub cutting_more : (out : List ℤ) {t' : List ℤ} {r : ℕ} → 675 ≤ length t → 675 ≤ length out → ClippedOn s (look path 9) j t n t' r → Cutting s path depth t' r (i + 1)
+            cutting_more out {t'} {r} l l' q = record {
+              gs = g.gs ++ look path 9 j ∷ [];
+              polygon = clipped_polygon s path 9 j t n out (cutting_clip out l l') t' r q;
+              count = omega (arith, length-append g.gs (look path 9 j ∷ []), g.count);
+              among = λ h v. go h (in_either g.gs (look path 9 j ∷ []) v);
+              fresh = without g.fresh is_fresh;
+              few = omega (arith, g.few, without_length g.fresh is_fresh);
+              others = λ h v w. without_in g.fresh is_fresh (g.others h v (λ u. w (in_left (look path 9 j ∷ []) u))) (λ e. w (in_right g.gs (here e)));
+            }
+              where
+                go : (h : Plane) → (h ∈ g.gs) ⊎ (h ∈ (look path 9 j ∷ [])) → h ∈ asked_of s path depth
+                go h (inl v) = g.among h v
+                go h (inr (here e)) = subst (λ p. p ∈ asked_of s path depth) (sym e) asked
+                go h (inr (there v)) = elim v [ ]

@@ -3,6 +3,7 @@
 #![tactic(auto)]
 
 mod blocks;
+mod paths;
 mod stops;
 
 ghost use Rattle.std.specs.Prelude.{◌++◌};
@@ -12,72 +13,47 @@ ghost use Rattle.polygons.specs.Tables.{rows_down};
 ghost use Rattle.cuts.specs.Paths.{CutIn, CutTold};
 
 use blocks::in_block;
+pub use paths::{Asked, Path};
 use planes::{Meeting, Plane};
-use polygons::{added, begin, clip_on, way};
+use polygons::{Halves, Room, added, begin, clip_on, way};
 use stops::stopped;
-
-// ---- the answers
-
-// A point on the plane and in the cell, or Nothing.
-#[derive(Clone, Copy)]
-pub enum Witnessed {
-    At(Meeting),
-    Nothing,
-}
-
-// A point on the plane and in the cell, or it is not known whether there is one.
-#[derive(Clone, Copy)]
-pub enum Seen {
-    At(Meeting),
-    Unknown,
-}
-
-// The index of a bound that a point is not in front of, or none.
-#[derive(Clone, Copy)]
-pub enum Stopped {
-    By(usize),
-    No,
-}
-
-// ---- a plane and the cell of a path
 
 // A half-space is clipped by only where it is needed: as long as the first three vertices, added, are not in front of some bound, the polygon
 // is clipped by that bound. No bound comes twice, so the last line is never reached.
-fn by_clips(
-    s: Plane,
-    path: &[i64],
-    depth: usize,
-    first: &mut [i64],
-    second: &mut [i64],
-) -> Witnessed
-    requires { CutIn (plane s) path.now depth first.old second.old }
-    ensures { CutTold (plane s) (rows_down path.now 9 depth ++ box) result }
+fn by_clips(s: Plane, path: &Path, room: &mut Room) -> Option<Meeting>
+    requires { CutIn (plane s) path.now.rows.now path.now.depth }
+    ensures { CutTold (plane s) (rows_down path.now.rows.now 9 path.now.depth ++ box) result }
 {
+    let hs = Halves {
+        numbers: path.rows,
+        width: 9,
+    };
     let w = way(s);
-    begin(s, w, first);
+    begin(s, w, &mut room.first);
     let mut n: usize = 4;
     // Two sides of the box, depth rows, and a turn that answers.
-    for _ in 0..depth + 3 {
+    for _ in 0..path.depth + 3 {
         if n == 0 {
-            return Witnessed::Nothing;
+            return None;
         }
-        let m = added(first);
-        let Stopped::By(k) = stopped(path, depth, w / 2, m.x, m.y, m.z, m.w) else {
-            return Witnessed::At(m);
+        let m = added(&room.first);
+        let Some(k) = stopped(path, w / 2, m) else {
+            return Some(m);
         };
-        n = clip_on(s, path, 9, k, first, n, second);
+        n = clip_on(s, &hs, k, &mut room.first, n, &mut room.second);
     }
-    Witnessed::Nothing
+    None
 }
 
-// Whether the plane s cuts the cell of a path: a point on it and in the cell, or Nothing. Where plane and cell
-// stand along the axes, a point is first sought without a polygon.
-pub fn cut(s: Plane, path: &[i64], depth: usize, first: &mut [i64], second: &mut [i64]) -> Witnessed
-    requires { CutIn (plane s) path.now depth first.old second.old }
+// Whether the plane s cuts the cell of a path: a point on it and in the cell, or None. Where plane and cell stand along the axes, a point is
+// first sought without a polygon.
+pub fn cut(s: Plane, path: &[i64], depth: usize, room: &mut Room) -> Option<Meeting>
+    requires { CutIn (plane s) path.now depth }
     ensures { CutTold (plane s) (rows_down path.now 9 depth ++ box) result }
 {
-    let Seen::At(m) = in_block(s, path, depth) else {
-        return by_clips(s, path, depth, first, second);
-    };
-    Witnessed::At(m)
+    let path = Path { rows: path, depth };
+    match in_block(s, &path) {
+        Some(m) => Some(m),
+        None => by_clips(s, &path, room),
+    }
 }

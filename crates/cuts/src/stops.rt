@@ -2,80 +2,71 @@
 ghost use Rattle.std.specs.Prelude.{◌≡◌, true, false, ◌++◌, ◌+◌, ◌<◌, pos};
 ghost use Rattle.whole.specs.Order.{◌⋖◌, ◌⩽◌};
 ghost use Rattle.scope.specs.Planes.{at};
-ghost use Rattle.planes.specs.Values.{quad};
+ghost use Rattle.planes.specs.Values.{plane, meeting};
 ghost use Rattle.planes.specs.Bounds.{SumIn};
 ghost use Rattle.polygons.specs.Tables.{box_side, look, rows_down};
-ghost use Rattle.cuts.specs.Paths.{along_axis, axis_sides, StopTold, Small, RowsIn};
+ghost use Rattle.cuts.specs.Paths.{along_axis, axis_sides, StopTold, Small, Placed, RowsIn};
 
-use crate::Stopped;
-use planes::Point;
+use crate::Path;
+use planes::{Meeting, Plane, Point};
 
 // The coordinate along an axis: 0 for x, 1 for y, 2 for z.
-pub fn along(axis: usize, x: i64, y: i64, z: i64) -> i64
-    ensures { result ≡ along_axis axis x y z }
+fn along(m: Meeting, axis: usize) -> i64
+    ensures { result ≡ along_axis axis (meeting m) }
 {
     match axis {
-        0 => x,
-        1 => y,
-        _ => z,
+        0 => m.x,
+        1 => m.y,
+        _ => m.z,
     }
 }
 
-// A side of the box along an axis that a point is not in front of, or none: the sums are at most 2.4*10^15.
-pub fn stopped_by_box(axis: usize, x: i64, y: i64, z: i64, w: i64) -> Stopped
-    requires { (axis < 3) × Small (quad x y z w) }
-    ensures { StopTold box_side (axis_sides axis) 6 (quad x y z w) result }
+// A side of the box along an axis that a point is not in front of, or None: the sums are at most 2.4*10^15.
+fn stopped_by_box(axis: usize, m: Meeting) -> Option<usize>
+    requires { (axis < 3) × Small (meeting m) }
+    ensures { StopTold box_side (axis_sides axis) 6 (meeting m) result }
 {
-    let v = along(axis, x, y, z);
-    let u = Point::REACH * w;
+    let v = along(m, axis);
+    let u = Point::REACH * m.w;
     if v + u <= 0 {
-        return Stopped::By(2 * axis);
+        return Some(2 * axis);
     }
     if u - v <= 0 {
-        return Stopped::By(2 * axis + 1);
+        return Some(2 * axis + 1);
     }
-    Stopped::No
+    None
 }
 
 // Whether a point is not in front of a half-space. The two halves of the sum, at most 3.6*10^18 each, are compared and not added: of a sum
 // of four products the compiler makes vector products, which cost more.
-fn not_in_front(a: i64, b: i64, c: i64, d: i64, x: i64, y: i64, z: i64, w: i64) -> bool
-    requires { SumIn a b c d x y z w }
-    ensures yes { result ≡ true → at (quad a b c d) (quad x y z w) ⩽ pos 0 }
-    ensures no { result ≡ false → pos 0 ⋖ at (quad a b c d) (quad x y z w) }
+fn not_in_front(h: Plane, m: Meeting) -> bool
+    requires { SumIn h.a h.b h.c h.d m.x m.y m.z m.w }
+    ensures yes { result ≡ true → at (plane h) (meeting m) ⩽ pos 0 }
+    ensures no { result ≡ false → pos 0 ⋖ at (plane h) (meeting m) }
 {
-    a * x + b * y <= -(c * z + d * w)
+    h.a * m.x + h.b * m.y <= -(h.c * m.z + h.d * m.w)
 }
 
-// A row of a path that a point is not in front of, or none. Rows are asked last first, along their links: a row
-// that the point is in front of speaks for those that its link passes over.
-pub fn stopped_by_row(path: &[i64], depth: usize, x: i64, y: i64, z: i64, w: i64) -> Stopped
-    requires { RowsIn path.now depth (quad x y z w) }
-    ensures { StopTold (look path.now 9) (rows_down path.now 9 depth) (6 + depth) (quad x y z w) result }
+// A row of a path that a point is not in front of, or None: a row that the point is in front of speaks for those that its link passes over.
+fn stopped_by_row(path: &Path, m: Meeting) -> Option<usize>
+    requires { RowsIn path.now.rows.now path.now.depth × Placed (meeting m) }
+    ensures { StopTold (look path.now.rows.now 9) (rows_down path.now.rows.now 9 path.now.depth) (6 + path.now.depth) (meeting m) result }
 {
-    let mut end = depth * 9;
-    while 0 < end {
-        let a = path[end - 9];
-        let b = path[end - 8];
-        let c = path[end - 7];
-        let d = path[end - 6];
-        if not_in_front(a, b, c, d, x, y, z, w) {
-            return Stopped::By(5 + end / 9);
+    for at in path.asked() {
+        if not_in_front(Plane::load(path.rows, at), m) {
+            return Some(6 + at / 9);
         }
-        let link = path[end - 1];
-        end = link as usize;
     }
-    Stopped::No
+    None
 }
 
-// A bound that a point is not in front of, or none: the sides of the box first, then the rows.
-pub fn stopped(path: &[i64], depth: usize, axis: usize, x: i64, y: i64, z: i64, w: i64) -> Stopped
-    requires { (axis < 3) × RowsIn path.now depth (quad x y z w) }
-    ensures { StopTold (look path.now 9) (axis_sides axis ++ rows_down path.now 9 depth) (6 + depth) (quad x y z w) result }
+// A bound that a point is not in front of, or None: the sides of the box first, then the rows.
+pub fn stopped(path: &Path, axis: usize, m: Meeting) -> Option<usize>
+    requires { (axis < 3) × RowsIn path.now.rows.now path.now.depth × Placed (meeting m) }
+    ensures { StopTold (look path.now.rows.now 9) (axis_sides axis ++ rows_down path.now.rows.now 9 path.now.depth) (6 + path.now.depth) (meeting m) result }
 {
-    let b = stopped_by_box(axis, x, y, z, w);
-    let Stopped::No = b else {
-        return b;
-    };
-    stopped_by_row(path, depth, x, y, z, w)
+    match stopped_by_box(axis, m) {
+        Some(k) => Some(k),
+        None => stopped_by_row(path, m),
+    }
 }

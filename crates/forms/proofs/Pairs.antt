@@ -1,77 +1,85 @@
 -- The normal form of an operation of two sound solids, from the answers of its parts.
 --     borders_in, boundary_few   what the listing of the boundary planes is given, and how many they are
---     whole_part           a part of a table from its start
 --     cell_in              what the form of the box is given
 --     form_rows, put_in    what it leaves: the rows of the form; and these are put out
-use mathlib.Core.Path.{◌≡◌, refl, sym, ap, subst}
+use mathlib.Core.Path.{◌≡◌, refl, sym, subst}
 use mathlib.Core.List.{List}
-use Prim.Native.Nat.{ℕ, ◌-◌, ◌*◌, ◌≤◌}
+use Prim.Native.Nat.{ℕ, ◌*◌, ◌≤◌}
 use native.Mathlib.Omega.{arith}
+use denote.Ref.{Bor}
 use lib.IntN.{ℤ}
 use lib.ListN.{length, take}
+use Rattle.std.specs.Prelude.{Ok}
 use Rattle.scope.specs.Solids.{Tree}
 use Rattle.scope.specs.Cells.{box, Operation, operate}
 use Rattle.scope.specs.Normal.{both, Normal}
 use Rattle.scope.specs.Text.{operation_code}
 use Rattle.theory.specs.Theorems.{form_both}
 use Rattle.theory.specs.Forms.Normal.{normal_planes}
+use Rattle.tables.specs.declared.LentSolid.{LentSolid}
 use Rattle.tables.specs.Promises.{SolidOf}
 use Rattle.cells.specs.Paths.{at_box}
+use Rattle.lists.specs.declared.JoinedList.{JoinedList}
 use Rattle.lists.specs.Lists.{JoinTold}
-use Rattle.walks.specs.declared.Walked.{Walked}
+use Rattle.walks.specs.declared.rows.Operands.{Operands}
+use Rattle.walks.specs.Putting.{Walked}
 use Rattle.borders.specs.declared.Pair.{Pair}
 use Rattle.borders.specs.Bounded.{PairIs, Bounded}
 use Rattle.borders.specs.Borders.{BordersIn, BordersTold}
-use Rattle.splits.specs.Splits.{CellIn, Formed}
-use Rattle.splits.specs.Splits as splits
-use Rattle.results.specs.Putting.{RowsOf, PutIn}
-use Rattle.results.specs.Operands.{SoundIn, LentIn}
-use Rattle.results.proofs.Operands.{stands_a, stands_b, joined_in_order, joined_has, joined_from, lent_numbers, ground_in}
+use Rattle.splits.specs.Splits.{Given, CellIn, Formed}
+use Rattle.results.specs.Putting.{InOrder, RowsOf, PutIn}
+use Rattle.results.specs.Operands.{SoundIn}
+use Rattle.results.proofs.Operands.{stands_a, stands_b, joined_in_order, joined_has, joined_from, both_rows, ground_in}
 
-pub whole_part : (k : ℕ) (bs : List ℕ) → take (k - 0) bs ≡ take k bs
-whole_part k bs = ap (λ n. take n bs) {x = k - 0} {y = k} (omega arith)
+module _ {op : ℕ} {a b : LentSolid} {xs : List ℤ} {ns : List ℕ} {path : List ℤ} (h : SoundIn op a b xs ns path) {l : JoinedList} (j : JoinTold a.planes.now b.planes.now l) (list : Bor (List ℤ)) (e : list.now ≡ take (4 * l.count) l.planes) (numbers : Bor (List ℕ)) (f : numbers.now ≡ l.numbers) where
+  abbrev rows : Operands
+  rows = both_rows a b list numbers
 
-module _ {t : Pair} {pa : List ℤ} {na : List ℕ} {pb : List ℤ} {nb : List ℕ} {xs : List ℤ} {ns : List ℕ} {path : List ℤ} (h : SoundIn t.op pa na t.ar pb nb t.br xs ns path)
-    {joined₀ : List ℤ} {numbers₀ : List ℕ} {first second : List ℤ} (l : LentIn joined₀ numbers₀ first second) {joined : List ℤ} {numbers : List ℕ} {n : ℕ} (j : JoinTold pa pb joined numbers n) (en : length numbers ≡ length numbers₀) {ls : List ℤ} (e : ls ≡ take (4 * n) joined) where
-  pair_is : {o : Operation} {A B : Tree} → t.op ≡ operation_code o → SolidOf pa na t.ar A → SolidOf pb nb t.br B → PairIs ls numbers na nb t o A B
-  pair_is eo a b = let r = lent_numbers l numbers en in record { op_is = eo; first_stands = stands_a a b j r e; second_stands = stands_b a b j r e }
+  abbrev pair : Pair
+  pair = record { op = op; ar = a.root; br = b.root }
 
-  pub borders_in : {bs : List ℕ} → 128 ≤ length bs → BordersIn ls numbers na nb t path first second bs
-  borders_in room =
-      let a = h.first_solid in
-      let b = h.second_solid in
-      let r = lent_numbers l numbers en in
-      record { grounds = ground_in h l j en e refl refl refl; order = (joined_in_order a b j r e).order; operation = h.operation; tree_a = h.first; tree_b = h.second; pair_is = pair_is h.op_is a b; members = joined_from a b j r e; room = room }
+  pair_is : {o : Operation} {A B : Tree} → op ≡ operation_code o → SolidOf a.planes.now a.nodes.now a.root A → SolidOf b.planes.now b.nodes.now b.root B → PairIs rows pair o A B
+  pair_is eo u v = record { op_is = eo; first_stands = stands_a u v j e f; second_stands = stands_b u v j e f }
 
-  pub boundary_few : {bs' : List ℕ} {k : ℕ} → BordersTold ls numbers na nb t bs' k → k ≤ 128
-  boundary_few q = omega (arith, q.few, (joined_in_order h.first_solid h.second_solid j (lent_numbers l numbers en) e).few)
+  order : InOrder list.now
+  order = joined_in_order h.first_solid h.second_solid j e f
 
-  module _ {bs' : List ℕ} {k : ℕ} (q : BordersTold ls numbers na nb t bs' k) {bs : List ℕ} (ek : bs ≡ take k bs') {path' : List ℤ} where
-    box_given : {o : Operation} {A B : Tree} → t.op ≡ operation_code o → SolidOf pa na t.ar A → SolidOf pb nb t.br B → splits.Given ls numbers na nb bs t path' 0 0 o A B box
-    box_given {o} {A} {B} eo a b =
-        let p = pair_is eo a b in
-        let d = subst (Bounded (both (operate o) A B) ls) (sym ek) (q.bounded o A B p (joined_from a b j (lent_numbers l numbers en) e)) in
+  pub borders_in : {bs : List ℕ} → 128 ≤ length bs → BordersIn rows pair path bs
+  borders_in room = record {
+    grounds = ground_in h j e refl;
+    order = order.order;
+    operation = h.operation;
+    tree_a = h.first;
+    tree_b = h.second;
+    pair_is = pair_is h.op_is h.first_solid h.second_solid;
+    members = joined_from h.first_solid h.second_solid j e f;
+    room = room;
+  }
+
+  pub boundary_few : {bs' : List ℕ} {k : ℕ} → BordersTold rows pair bs' k → k ≤ 128
+  boundary_few q = omega (arith, q.few, order.few)
+
+  module _ {bs' : List ℕ} {k : ℕ} (q : BordersTold rows pair bs' k) {bs : List ℕ} (ek : bs ≡ take k bs') {path' : List ℤ} where
+    box_given : {o : Operation} {A B : Tree} → op ≡ operation_code o → SolidOf a.planes.now a.nodes.now a.root A → SolidOf b.planes.now b.nodes.now b.root B → Given rows bs pair path' 0 0 o A B box
+    box_given {o} {A} {B} eo u v =
+        let p = pair_is eo u v in
+        let d = subst (Bounded (both (operate o) A B) list.now) (sym ek) (q.bounded o A B p (joined_from u v j e f)) in
         record { stood = record { pair = p; on = at_box }; bounded = d; rest = λ p x y. d.all p x }
 
-    pub cell_in : {first' second' : List ℤ} → length path' ≡ length path → length first' ≡ length first → length second' ≡ length second → CellIn ls numbers na nb bs t path' 0 first' second' ns 0 0
-    cell_in ep ef es =
-        let a = h.first_solid in
-        let b = h.second_solid in
-        record { grounds = ground_in h l j en e ep ef es; ordered = (joined_in_order a b j (lent_numbers l numbers en) e).order; operation = h.operation; tree_a = h.first; tree_b = h.second; cell = box; given = box_given h.op_is a b; room = record { rows = omega arith; few = omega arith } }
+    pub cell_in : length path' ≡ length path → CellIn rows bs pair path' 0 ns 0 0
+    cell_in ep = record { grounds = ground_in h j e ep; ordered = order.order; operation = h.operation; tree_a = h.first; tree_b = h.second; cell = box; given = box_given h.op_is h.first_solid h.second_solid; room = record { rows = omega arith; few = omega arith } }
 
-    module _ {path'' : List ℤ} {ns' : List ℕ} {z : Walked} (d : Formed ls numbers na nb bs t path' path'' 0 ns ns' 0 0 z) (en' : length ns' ≡ length ns) where
-      pub form_rows : (o : Operation) (A B s : Tree) → t.op ≡ operation_code o → SolidOf pa na t.ar A → SolidOf pb nb t.br B → Normal (both (operate o) A B) box s → RowsOf ls ns ns' z s
-      form_rows o A B s eo a b f =
-          let r = lent_numbers l numbers en in
-          record {
-            in_order = joined_in_order a b j r e;
-            sub = λ p m. joined_has a b j r e p (normal_planes (both (operate o) A B) f p m).member;
-            zero = h.zeros.nodes_zero;
-            long = en';
-            emitted = d.emitted o A B s box (box_given eo a b) f;
-          }
+    module _ {path'' : List ℤ} {ns' : List ℕ} {z : Walked} (d : Formed rows bs pair path' path'' 0 ns ns' 0 0 z) (en : length ns' ≡ length ns) where
+      pub form_rows : (o : Operation) (A B s : Tree) → op ≡ operation_code o → SolidOf a.planes.now a.nodes.now a.root A → SolidOf b.planes.now b.nodes.now b.root B → Normal (both (operate o) A B) box s → RowsOf list.now ns ns' z s
+      form_rows o A B s eo u v w = record {
+        in_order = joined_in_order u v j e f;
+        sub = λ p m. joined_has u v j e f p (normal_planes (both (operate o) A B) w p m).member;
+        zero = h.zeros.nodes_zero;
+        long = en;
+        emitted = d.emitted o A B s box (box_given eo u v) w;
+      }
 
-      pub put_in : PutIn ls xs ns' z
-      put_in =
-          let f = form_both (operate h.operation) h.first_solid.lawful h.second_solid.lawful in
-          record { blank = ns; tree = f.0; rows = form_rows h.operation h.first h.second f.0 h.op_is h.first_solid h.second_solid f.1; zeros = h.zeros.planes_zero }
+    pub put_in : {path'' : List ℤ} {ns' : List ℕ} {root m : ℕ} → Formed rows bs pair path' path'' 0 ns ns' 0 0 (Ok (root, m)) → length ns' ≡ length ns → PutIn list.now xs ns' root m
+    put_in d en =
+        let w = form_both (operate h.operation) h.first_solid.lawful h.second_solid.lawful in
+        record { blank = ns; tree = w.0; rows = form_rows d en h.operation h.first h.second w.0 h.op_is h.first_solid h.second_solid w.1; zeros = h.zeros.planes_zero }

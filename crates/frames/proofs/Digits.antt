@@ -1,18 +1,19 @@
 -- Characters and bytes: what a digit that was read is, and how large it is.
 use mathlib.Core.Path.{◌≡◌, refl, ap, ◌∙◌}
 use mathlib.Core.Bool.{Bool, true, false, cond}
-use mathlib.Core.List.{List}
+use mathlib.Core.List.{List, ◌∷◌, map}
 use mathlib.Core.Logic.{◌≢◌}
 use mathlib.Core.Option.{Option, none, some}
-use Prim.Native.Nat.{ℕ, ◌+◌, ◌-◌, ◌*◌, ◌<◌}
+use Prim.Native.Nat.{ℕ, zero, suc, ◌+◌, ◌-◌, ◌<◌}
 use native.Mathlib.Omega.{arith}
 use lib.Dec.{T, ltb, ltb→lt}
-use lib.ListN.{get_or}
+use lib.ListN.{length, get_or}
+use Rattle.std.specs.List.{range_with_len}
+use Rattle.std.specs.Option.{is_none}
+use Rattle.std.proofs.lemmas.List.FromFn.{fill_by_all}
 use Rattle.whole.specs.Tests.{differ}
 use Rattle.scope.specs.Text.{digit}
-use Rattle.frames.specs.Bytes.{digit_answer, value_or, nibble_of, byte_of}
-use Rattle.frames.specs.declared.DigitRead.{DigitRead}
-use Rattle.frames.specs.declared.DigitRead.TheVariants.{Value, Bad}
+use Rattle.frames.specs.Bytes.{digit_answer, value_or, nibble_of, byte_of, bytes_of}
 
 -- a digit is below 16
 pub nibble_small : (c : ℕ) → nibble_of c < 16
@@ -26,38 +27,14 @@ nibble_small c = go (ltb c 48) (ltb c 58) (ltb c 65) (ltb c 71) (ltb→lt c 58) 
     go false false false true f g = omega (arith, g tt)
     go false false false false f g = omega arith
 
--- so a byte is below 256
-pub byte_small : (t : List ℕ) (at k : ℕ) → byte_of t at k < 256
-unfolding byte_of
-byte_small t at k = omega (arith, nibble_small (get_or t (at + 2 * k) 0), nibble_small (get_or t (at + 2 * k + 1) 0))
-
--- what `digit` told of a character
-module _ (c : ℕ) {r : DigitRead} (e : r ≡ digit_answer (digit c)) where
-  pub digit_none : r ≡ Bad → digit c ≡ none
-  digit_none = go (digit c) e
-    where
-      go : (o : Option ℕ) → r ≡ digit_answer o → r ≡ Bad → o ≡ none
-      go none e f = refl
-      go (some n) e f = differ (cc)
-
-  pub digit_some : {n : ℕ} → r ≡ Value n → digit c ≡ some n
-  digit_some {n} = go (digit c) e
-    where
-      go : (o : Option ℕ) → r ≡ digit_answer o → r ≡ Value n → o ≡ some n
-      go none e f = differ (cc)
-      go (some m) e f = cc
-
--- and the value that the character then has
-pub nibble_none : (c : ℕ) → digit c ≡ none → 0 ≡ nibble_of c
+-- the value of a digit, and of a character that is none
+pub digit_is : (c : ℕ) → digit c ≢ none → digit c ≡ some (nibble_of c)
 unfolding nibble_of
-nibble_none c e = rw e
-
-pub nibble_some : (c : ℕ) {n : ℕ} → digit c ≡ some n → n ≡ nibble_of c
-unfolding nibble_of
-nibble_some c e = rw e
-
-pub digit_is : (c : ℕ) {n : ℕ} → digit c ≡ some n → digit c ≡ some (nibble_of c)
-digit_is c e = cc (e, nibble_some c e)
+digit_is c h = by (digit c) refl
+  where
+    by : (o : Option ℕ) → digit c ≡ o → digit c ≡ some (value_or (digit c))
+    by none e = absurd (h e)
+    by (some n) e = rw e refl
 
 -- LF is no digit
 lf_none : digit 10 ≡ none
@@ -66,3 +43,29 @@ lf_none = refl
 
 pub digit_not_lf : (c : ℕ) {n : ℕ} → digit c ≡ some n → c ≢ 10
 digit_not_lf c {n} e h = let z : digit c ≡ none = ap digit h ∙ lf_none in differ (cc)
+
+-- ---- bytes, one after the other
+
+bytes_range : (t : List ℕ) (at k n : ℕ) → map (byte_of t at) (range_with_len k n) ≡ bytes_of t at k n
+bytes_range t at k zero = refl
+bytes_range t at k (suc n) = let e : k + 1 ≡ suc k = omega arith in ap (λ l. byte_of t at k ∷ l) (ap (λ j. map (byte_of t at) (range_with_len j n)) e ∙ bytes_range t at (suc k) n)
+
+-- a table of them
+pub bytes_filled : (t : List ℕ) (at n : ℕ) (bs : List ℕ) → length bs ≡ n → ((k : ℕ) → k < n → get_or bs k 0 ≡ byte_of t at k) → bs ≡ bytes_of t at 0 n
+bytes_filled t at n bs l h = fill_by_all (byte_of t at) bs n 0 l h ∙ bytes_range t at 0 n
+
+-- ---- whether a character is a digit
+
+pub other_true : (c : ℕ) → is_none (digit_answer (digit c)) ≡ true → digit c ≡ none
+other_true c e = by (digit c) e
+  where
+    by : (o : Option ℕ) → is_none (digit_answer o) ≡ true → o ≡ none
+    by none e = refl
+    by (some n) e = differ (cc)
+
+pub other_false : (c : ℕ) → is_none (digit_answer (digit c)) ≡ false → digit c ≢ none
+other_false c e = by (digit c) e
+  where
+    by : (o : Option ℕ) → is_none (digit_answer o) ≡ false → o ≢ none
+    by none e h = differ (cc)
+    by (some n) e h = differ (cc)

@@ -1,23 +1,29 @@
 -- One line of a text, by the places of its characters: what `line_at` meets is the first frame of the text from its place on.
 --     Digits                                     the characters from one place up to another are digits
---     line_whole, line_empty, line_odd           up to LF: an even number of digits, none, an odd number
---     line_unread, line_torn, line_missing       a character that is no digit, a rest without LF, no text
+--     whole_line, bad_line                       up to LF, an even number of digits and not none; or another line with a character that is no digit
+--     torn_line, line_missing                    a rest without LF; no text
 use mathlib.Core.Path.{◌≡◌, refl, sym, ap, subst, ◌∙◌}
 use mathlib.Core.List.{List, [], ◌∷◌, ◌++◌, append-nil}
-use mathlib.Core.Logic.{◌≢◌, ◌⊎◌, ⊎_elim}
+use mathlib.Core.Bool.{Bool, true, false}
+use mathlib.Core.Logic.{◌≢◌}
 use mathlib.Core.Option.{Option, none, some}
-use Prim.Native.Nat.{ℕ, zero, suc, ◌+◌, ◌-◌, ◌*◌, ◌%◌, ◌≤◌, ◌<◌}
-use native.Mathlib.Nat.{add-zero, eq-or-lt_of_le}
+use Prim.Native.Nat.{ℕ, zero, suc, ◌+◌, ◌-◌, ◌*◌, ◌/◌, ◌%◌, ◌≤◌, ◌<◌}
+use native.Mathlib.Nat.{add-zero}
 use native.Mathlib.Omega.{arith}
-use lib.ListN.{length, get_or, drop, drop_of_length-le}
-use lib.Seq.{drop-cons}
+use lib.ListN.{length, get_or, take, drop, drop_of_length-le, length-drop}
+use lib.Dec.{eqb}
+use Rattle.std.specs.Prelude.{Some, None}
+use Rattle.std.specs.Bool.{Decides}
+use Rattle.std.proofs.lemmas.Bool.Decides.{Decides-eqb}
+use Rattle.std.proofs.lemmas.List.{get_or-drop}
+use lib.Seq.{drop-cons, take-length}
 use Rattle.whole.specs.Tests.{differ, eq_false}
 use Rattle.scope.specs.Text.{digit, pair, pairs, Line, whole, torn, put, lines, content, frame, frame_or, each, frames}
 use Rattle.theory.specs.Text.Lines.{NoLF, nil, cons, lines_whole, lines_torn, malformed_content}
 use Rattle.theory.specs.Text.Frames.{bad_malformed}
 use Rattle.frames.specs.Bytes.{nibble_of, byte_of, bytes_of}
-use Rattle.frames.specs.Promises.{BadFirst, WholeLine}
-use Rattle.frames.proofs.Digits.{digit_not_lf}
+use Rattle.frames.specs.Promises.{OtherTold, BadFirst, WholeLine}
+use Rattle.frames.proofs.Digits.{digit_is, digit_not_lf}
 
 -- ---- content
 
@@ -92,9 +98,6 @@ torn_first (c ∷ l) n h = rw (append-nil (c ∷ l), lines_torn n) (bad_first (t
 
 -- ---- by places
 
-eq_or_lt : (k i : ℕ) → k < i + 1 → (k ≡ i) ⊎ (k < i)
-eq_or_lt k i l = eq-or-lt_of_le (omega arith)
-
 module _ (t : List ℕ) where
   abbrev chars : ℕ → ℕ → List ℕ
   chars at zero = []
@@ -110,12 +113,8 @@ module _ (t : List ℕ) where
       let e : suc at + j ≡ at + suc j = omega arith in
       drop-cons t at 0 (omega arith) ∙ ap (λ l. get_or t at 0 ∷ l) (drop_chars (suc at) j (omega arith) ∙ ap (λ n. chars (suc at) j ++ drop n t) e)
 
-  abbrev pub Digits : ℕ → ℕ → Type 0
+  abbrev Digits : ℕ → ℕ → Type 0
   Digits at i = (k : ℕ) → at ≤ k → k < i → digit (get_or t k 0) ≡ some (nibble_of (get_or t k 0))
-
-  -- one more digit
-  pub digits_more : (at i : ℕ) → Digits at i → digit (get_or t i 0) ≡ some (nibble_of (get_or t i 0)) → Digits at (i + 1)
-  digits_more at i d e = λ k h. λ l. ⊎_elim (λ f. subst (λ m. digit (get_or t m 0) ≡ some (nibble_of (get_or t m 0))) (sym f) e) (λ f. d k h f) (eq_or_lt k i l)
 
   chars_no_lf : (at j : ℕ) → Digits at (at + j) → NoLF (chars at j)
   chars_no_lf at zero d = nil
@@ -135,71 +134,98 @@ module _ (t : List ℕ) where
       let lo = d (suc (at + 2 * k)) (omega arith) (omega arith) in
       ap (λ m. pairs (chars (at + 2 * k) m)) e ∙ (λ i. pair (hi i) (lo i) (p i)) ∙ ap (λ m. some ((nibble_of (get_or t (at + 2 * k) 0) * 16 + nibble_of (get_or t m 0)) ∷ bytes_of t at (suc k) n)) g
 
--- a line of j digits up to place i, where LF stands
-module _ (t : List ℕ) (at i : ℕ) (h : at ≤ i) (d : Digits t at i) where
-  j : ℕ
-  j = i - at
-
-  to_i : at + j ≡ i
-  unfolding j
-  to_i = omega arith
-
-  digits : Digits t at (at + j)
-  digits = rw to_i d
-
-  from_i : at + j ≤ length t → drop at t ≡ chars t at j ++ drop i t
-  from_i l = drop_chars t at j l ∙ ap (λ n. chars t at j ++ drop n t) to_i
-
-  module _ (l : i < length t) (e : get_or t i 0 ≡ 10) where
-    first_line : frames (drop at t) ≡ frame_or (content (whole (chars t at j))) ∷ frames (drop (suc i) t)
+-- n digits from `at` on
+module _ (t : List ℕ) (at n : ℕ) (d : Digits t at (at + n)) where
+  -- and LF after them
+  module _ (l : at + n < length t) (e : get_or t (at + n) 0 ≡ 10) where
+    first_line : frames (drop at t) ≡ frame_or (content (whole (chars t at n))) ∷ frames (drop (suc (at + n)) t)
     unfolding frames
     first_line =
-        let r : drop i t ≡ 10 ∷ drop (suc i) t = drop-cons t i 0 l ∙ ap (λ c. c ∷ drop (suc i) t) e in
-        let k : at + j ≤ length t = omega (arith, to_i) in
-        ap (λ m. each (lines m)) (from_i k ∙ ap (λ m. chars t at j ++ m) r) ∙ ap each (lines_whole (drop (suc i) t) (chars_no_lf t at j digits))
+        let r : drop (at + n) t ≡ 10 ∷ drop (suc (at + n)) t = drop-cons t (at + n) 0 l ∙ ap (λ c. c ∷ drop (suc (at + n)) t) e in
+        ap (λ m. each (lines m)) (drop_chars t at n (omega arith) ∙ ap (λ m. chars t at n ++ m) r) ∙ ap each (lines_whole (drop (suc (at + n)) t) (chars_no_lf t at n d))
 
-    pub line_empty : i - at ≡ 0 → BadFirst (frames (drop at t))
-    unfolding j content
-    line_empty z = record { rest = frames (drop (suc i) t); is = first_line ∙ ap (λ n. frame_or (content (whole (chars t at n))) ∷ frames (drop (suc i) t)) z }
+    line_empty : n ≡ 0 → BadFirst (frames (drop at t))
+    unfolding content
+    line_empty z = record { rest = frames (drop (suc (at + n)) t); is = first_line ∙ ap (λ m. frame_or (content (whole (chars t at m))) ∷ frames (drop (suc (at + n)) t)) z }
 
-    pub line_odd : (i - at) % 2 ≡ 1 → BadFirst (frames (drop at t))
-    unfolding j
+    line_odd : n % 2 ≡ 1 → BadFirst (frames (drop at t))
     line_odd o =
-        let n : length (chars t at j) ≡ i - at = chars_length t at j in
-        record { rest = frames (drop (suc i) t); is = first_line ∙ ap (λ x. frame_or x ∷ frames (drop (suc i) t)) (content_pairs (chars t at j) (omega arith) ∙ pairs_odd (chars t at j) (omega arith)) }
+        let m : length (chars t at n) ≡ n = chars_length t at n in
+        record { rest = frames (drop (suc (at + n)) t); is = first_line ∙ ap (λ x. frame_or x ∷ frames (drop (suc (at + n)) t)) (content_pairs (chars t at n) (omega arith) ∙ pairs_odd (chars t at n) (omega arith)) }
 
-    pub line_whole : (n : ℕ) → i - at ≡ 2 * n → 0 < n → WholeLine t at n
-    unfolding j
-    line_whole n z s =
+    line_whole : (m : ℕ) → n ≡ 2 * m → 0 < m → WholeLine t at m
+    line_whole m z s =
         let q : at ≡ at + 2 * 0 = omega arith in
-        let d' : Digits t (at + 2 * 0) (at + 2 * 0 + 2 * n) = λ k u v. d k (omega arith) (omega arith) in
-        let c : content (whole (chars t at j)) ≡ some (bytes_of t at 0 n) =
-        content_pairs (chars t at j) (omega (arith, chars_length t at j)) ∙ ap (λ m. pairs (chars t at m)) z ∙ ap (λ a. pairs (chars t a (2 * n))) q ∙ chars_pairs t at 0 n d' in
-        let e' : suc i ≡ at + (2 * n + 1) = omega arith in
+        let d' : Digits t (at + 2 * 0) (at + 2 * 0 + 2 * m) = λ k u v. d k (omega arith) (omega arith) in
+        let c : content (whole (chars t at n)) ≡ some (bytes_of t at 0 m) =
+        content_pairs (chars t at n) (omega (arith, chars_length t at n)) ∙ ap (λ k. pairs (chars t at k)) z ∙ ap (λ a. pairs (chars t a (2 * m))) q ∙ chars_pairs t at 0 m d' in
+        let e' : suc (at + n) ≡ at + (2 * m + 1) = omega arith in
         record {
           reads = record {
-            first = first_line ∙ ap (λ o. frame_or o ∷ frames (drop (suc i) t)) c ∙ ap (λ m. frame (bytes_of t at 0 n) ∷ frames (drop m t)) e';
+            first = first_line ∙ ap (λ o. frame_or o ∷ frames (drop (suc (at + n)) t)) c ∙ ap (λ k. frame (bytes_of t at 0 m) ∷ frames (drop k t)) e';
             place = refl;
             inside = omega arith;
           };
           some = s;
-          good = λ b. let m : content (whole (chars t at j)) ≡ none = malformed_content (bad_malformed (whole (chars t at j)) (ap frame_or c ∙ b)) in differ (cc);
+          good = λ b. let o : content (whole (chars t at n)) ≡ none = malformed_content (bad_malformed (whole (chars t at n)) (ap frame_or c ∙ b)) in differ (cc);
         }
 
-  pub line_unread : i < length t → digit (get_or t i 0) ≡ none → get_or t i 0 ≢ 10 → BadFirst (frames (drop at t))
+  line_unread : at + n < length t → digit (get_or t (at + n) 0) ≡ none → get_or t (at + n) 0 ≢ 10 → BadFirst (frames (drop at t))
   unfolding frames
   line_unread l e f =
-      let k : at + j ≤ length t = omega (arith, to_i) in
-      let w : drop at t ≡ chars t at j ++ get_or t i 0 ∷ drop (suc i) t = from_i k ∙ ap (λ m. chars t at j ++ m) (drop-cons t i 0 l) in
-      rw w (bad_first (lines (chars t at j ++ get_or t i 0 ∷ drop (suc i) t)) (bad_lines (get_or t i 0) (drop (suc i) t) (chars_no_lf t at j digits) e f))
+      let w : drop at t ≡ chars t at n ++ get_or t (at + n) 0 ∷ drop (suc (at + n)) t = drop_chars t at n (omega arith) ∙ ap (λ m. chars t at n ++ m) (drop-cons t (at + n) 0 l) in
+      rw w (bad_first (lines (chars t at n ++ get_or t (at + n) 0 ∷ drop (suc (at + n)) t)) (bad_lines (get_or t (at + n) 0) (drop (suc (at + n)) t) (chars_no_lf t at n d) e f))
 
-  pub line_torn : i ≡ length t → at ≢ i → BadFirst (frames (drop at t))
+  line_torn : at + n ≡ length t → 0 < n → BadFirst (frames (drop at t))
   unfolding frames
   line_torn e f =
-      let k : at + j ≤ length t = omega (arith, to_i) in
-      let w : drop at t ≡ chars t at j ++ [] = from_i k ∙ ap (λ m. chars t at j ++ m) (drop_of_length-le t {i = i} (omega arith)) in
-      rw w (torn_first (chars t at j) (chars_no_lf t at j digits) (omega (arith, to_i, chars_length t at j)))
+      let w : drop at t ≡ chars t at n ++ [] = drop_chars t at n (omega arith) ∙ ap (λ m. chars t at n ++ m) (drop_of_length-le t {i = at + n} (omega arith)) in
+      rw w (torn_first (chars t at n) (chars_no_lf t at n d) (omega (arith, chars_length t at n)))
 
-pub line_missing : (t : List ℕ) (at : ℕ) → length t ≤ at → frames (drop at t) ≡ []
-unfolding frames lines
-line_missing t at h = rw (drop_of_length-le t h)
+-- ---- by the first character that is no digit, in the rest of the text as the code takes it
+
+abbrev pub rest : List ℕ → ℕ → List ℕ
+rest t at = take (length t - at) (drop at t)
+
+rest_is : (t : List ℕ) (at : ℕ) → rest t at ≡ drop at t
+rest_is t at = ap (λ n. take n (drop at t)) (sym (length-drop at t)) ∙ take-length (drop at t)
+
+module _ (t : List ℕ) (at : ℕ) where
+  rest_length : length (rest t at) ≡ length t - at
+  rest_length = ap length (rest_is t at) ∙ length-drop at t
+
+  rest_here : (n : ℕ) → get_or (rest t at) n 0 ≡ get_or t (at + n) 0
+  rest_here n = ap (λ u. get_or u n 0) (rest_is t at) ∙ get_or-drop at t n 0
+
+  rest_digits : (n : ℕ) → ((k : ℕ) → k < n → digit (get_or (rest t at) k 0) ≢ none) → Digits t at (at + n)
+  rest_digits n h k l m =
+      let e : at + (k - at) ≡ k = omega arith in
+      digit_is (get_or t k 0) (subst (λ c. digit c ≢ none) (rest_here (k - at) ∙ ap (λ i. get_or t i 0) e) (h (k - at) (omega arith)))
+
+  module _ {n : ℕ} (o : OtherTold (rest t at) (Some n)) where
+    inside : at + n < length t
+    inside = omega (arith, o.0, rest_length)
+
+    pub whole_line : get_or (rest t at) n 0 ≡ 10 → 0 < n → n % 2 ≡ 0 → WholeLine t at (n / 2)
+    whole_line e s m = line_whole t at n (rest_digits n o.2) inside (sym (rest_here n) ∙ e) (n / 2) (omega arith) (omega arith)
+
+    pub bad_line : (get_or (rest t at) n 0 ≡ 10 → 0 < n → n % 2 ≡ 1) → BadFirst (frames (drop at t))
+    bad_line h = by (eqb c 10) refl n refl
+      where
+        c : ℕ
+        c = get_or t (at + n) 0
+
+        is : Decides (eqb c 10) (c ≡ 10)
+        is = Decides-eqb c 10
+
+        by : (b : Bool) → eqb c 10 ≡ b → (m : ℕ) → n ≡ m → BadFirst (frames (drop at t))
+        by false b m e = line_unread t at n (rest_digits n o.2) inside (ap digit (sym (rest_here n)) ∙ o.1) (λ z. let q = is.1 z in differ (cc))
+        by true b zero e = line_empty t at n (rest_digits n o.2) inside (is.0 b) e
+        by true b (suc m) e = line_odd t at n (rest_digits n o.2) inside (is.0 b) (h (rest_here n ∙ is.0 b) (omega arith))
+
+  pub torn_line : OtherTold (rest t at) None → 0 < length (rest t at) → BadFirst (frames (drop at t))
+  torn_line o l = line_torn t at (length (rest t at)) (rest_digits (length (rest t at)) o) (omega (arith, rest_length)) l
+
+  pub line_missing : length (rest t at) ≡ 0 → frames (drop at t) ≡ []
+  unfolding frames lines
+  line_missing h = rw (drop_of_length-le t {i = at} (omega (arith, rest_length)))

@@ -1,57 +1,56 @@
--- Two's complement as the code makes it: from h on, `signed` takes the complement to 2h and turns its sign.
-use mathlib.Core.Path.{◌≡◌, refl, sym, ap, subst, ◌∙◌}
-use mathlib.Core.Bool.{true, false}
-use Prim.Native.Nat.{ℕ, suc, ◌+◌, ◌-◌, ◌≤◌, ◌<◌}
+-- Two's complement: the bits of a number of two or of four bytes, as the code and as the definitions have them.
+--     signed_2, signed_4        the number of given bits
+--     unsigned_2, unsigned_4    and the bits of a number
+--     bytes_2, bytes_4          the bytes of bits, the high byte first
+use mathlib.Core.Path.{◌≡◌, refl, ap, ◌∙◌}
+use mathlib.Core.Bool.{cond}
+use mathlib.Core.List.{[], ◌∷◌}
+use Prim.Native.Nat.{ℕ, ◌/◌, ◌%◌, ◌<◌}
 use native.Mathlib.Omega.{arith}
-use lib.IntN.{ℤ, pos, negsuc, neg_ℤ, nat_abs, ◌-ℤ◌, +ℤ_idl}
-use lib.Signed.{mag, lt_z}
-use borrow.Author.Tests.{ltb-true}
+use lib.Dec.{ltb}
+use lib.IntN.{ℤ, pos, negsuc}
+use lib.Signed.{mag}
 use mir.Syntax.{w64}
-use mir.Val.{SFits, to_z, of_z}
+use mir.Val.{to_z, of_z}
 use mir.Facts.{to_z-of_z}
-use mir.ValLaws.{to_z_pos}
-use Rattle.whole.specs.Tests.{lt_true, lt_false, differ}
-use Rattle.scope.specs.Text.{signed, unsigned}
-use Rattle.theory.specs.Text.Numbers.{Half}
+use Rattle.std.specs.Int.{w16, w32, cast_signed, cast_unsigned, to_be_bytes}
+use Rattle.scope.specs.Text.{high, low, high_word, low_word, word_bytes, signed, unsigned}
 
-module _ (h u : ℕ) (l : h ≤ 4294967296) where
-  -- below h
-  pub signed_low : u < h → to_z w64 u ≡ signed h u
-  unfolding signed
-  signed_low k = rw (lt_true u h k) (to_z_pos w64 u (omega arith))
+pub signed_2 : (u : ℕ) → cast_signed w16 u ≡ signed 32768 u
+unfolding signed
+signed_2 u = ap (λ n. cond (ltb u 32768) (pos u) (negsuc n)) (omega arith)
 
-  -- from h on
-  module _ (k : u < h + h) (j : h ≤ u) where
-    turned : pos 0 -ℤ to_z w64 (h + h - u) ≡ negsuc (h + h - 1 - u)
-    turned =
-        let e : h + h - u ≡ suc (h + h - 1 - u) = omega arith in
-        ap (λ z. pos 0 -ℤ z) (to_z_pos w64 (h + h - u) (omega arith)) ∙ +ℤ_idl (neg_ℤ (pos (h + h - u))) ∙ ap (λ n. neg_ℤ (pos n)) e
+pub signed_4 : (u : ℕ) → cast_signed w32 u ≡ signed 2147483648 u
+unfolding signed
+signed_4 u = ap (λ n. cond (ltb u 2147483648) (pos u) (negsuc n)) (omega arith)
 
-    pub turned_fits : SFits w64 (pos 0 -ℤ to_z w64 (h + h - u))
-    turned_fits = rw turned (record { sfits = omega arith })
+pub unsigned_2 : (z : ℤ) → cast_unsigned w16 z ≡ unsigned 32768 z
+unfolding unsigned
+unsigned_2 (pos n) = refl
+unsigned_2 (negsuc n) = omega arith
 
-    pub signed_high : to_z w64 (of_z w64 (pos 0 -ℤ to_z w64 (h + h - u))) ≡ signed h u
-    unfolding signed
-    signed_high = to_z-of_z turned_fits ∙ turned ∙ sym (rw (lt_false u h j))
+pub unsigned_4 : (z : ℤ) → cast_unsigned w32 z ≡ unsigned 2147483648 z
+unfolding unsigned
+unsigned_4 (pos n) = refl
+unsigned_4 (negsuc n) = omega arith
 
--- the bits of a number below 0, and of one from 0 on, by its size
-module _ (h : ℕ) where
-  pub unsigned_below : (z : ℤ) → Half h z → lt_z z (pos 0) ≡ true → (nat_abs z ≤ h + h) × (h + h - nat_abs z ≡ unsigned h z) × (h + h - nat_abs z < h + h)
-  unfolding unsigned
-  unsigned_below (pos n) k e = absurd (omega (arith, ltb-true n 0 e))
-  unsigned_below (negsuc n) k e = (omega arith, omega arith, omega arith)
+pub bytes_2 : (n : ℕ) → n < 65536 → to_be_bytes w16 n ≡ word_bytes n []
+unfolding high low
+bytes_2 n h = ap (λ k. k ∷ n % 256 ∷ []) (omega arith)
 
-  pub unsigned_above : (z : ℤ) → Half h z → lt_z z (pos 0) ≡ false → (nat_abs z ≡ unsigned h z) × (nat_abs z < h + h)
-  unfolding unsigned
-  unsigned_above (pos n) k e = (refl, omega arith)
-  unsigned_above (negsuc n) k e = differ (cc)
+pub bytes_4 : (n : ℕ) → n < 4294967296 → to_be_bytes w32 n ≡ word_bytes (high_word n) (word_bytes (low_word n) [])
+unfolding high low high_word low_word
+bytes_4 n h =
+    let p : n / 16777216 % 256 ≡ n / 65536 / 256 = omega arith in
+    let q : n / 65536 % 256 ≡ n / 65536 % 256 = refl in
+    let r : n / 256 % 256 ≡ n % 65536 / 256 = omega arith in
+    let s : n % 256 ≡ n % 65536 % 256 = omega arith in
+    λ i. p i ∷ n / 65536 % 256 ∷ r i ∷ s i ∷ []
 
--- a number that was handed on is read back from its bits
-pub kept : {z y : ℤ} → mag z < 9223372036854775808 → z ≡ y → to_z w64 (of_z w64 z) ≡ y
-kept {z} h e = to_z-of_z {w = w64} {z = z} (record { sfits = h }) ∙ e
+-- ---- a number that was read from its bytes and handed on
 
-pub half_kept : (h : ℕ) (z : ℤ) → mag z < 9223372036854775808 → Half h z → Half h (to_z w64 (of_z w64 z))
-half_kept h z f k = subst (Half h) (sym (kept {z = z} f refl)) k
+pub read_2 : {x y : ℤ} (u : ℕ) → mag x < 32768 → mag y < 9223372036854775808 → x ≡ cast_signed w16 u → y ≡ to_z w16 (of_z w16 x) → to_z w64 (of_z w64 y) ≡ signed 32768 u
+read_2 {x = x} {y = y} u f g p q = to_z-of_z {w = w64} {z = y} (record { sfits = g }) ∙ q ∙ to_z-of_z {w = w16} {z = x} (record { sfits = f }) ∙ p ∙ signed_2 u
 
-pub unsigned_kept : (h : ℕ) (z : ℤ) {n : ℕ} → mag z < 9223372036854775808 → n ≡ unsigned h (to_z w64 (of_z w64 z)) → n ≡ unsigned h z
-unsigned_kept h z f e = e ∙ ap (unsigned h) (kept {z = z} f refl)
+pub read_4 : {x y : ℤ} {v : ℕ} (u : ℕ) → mag x < 2147483648 → mag y < 9223372036854775808 → x ≡ cast_signed w32 u → u ≡ v → y ≡ to_z w32 (of_z w32 x) → to_z w64 (of_z w64 y) ≡ signed 2147483648 v
+read_4 {x = x} {y = y} u f g p e q = to_z-of_z {w = w64} {z = y} (record { sfits = g }) ∙ q ∙ to_z-of_z {w = w32} {z = x} (record { sfits = f }) ∙ p ∙ signed_4 u ∙ ap (signed 2147483648) e

@@ -4,13 +4,17 @@ use mathlib.Core.Path.{◌≡◌, refl, sym, ap, ◌∙◌}
 use mathlib.Core.Bool.{Bool, true, false, cond}
 use mathlib.Core.List.{List, [], ◌∷◌}
 use mathlib.Core.Logic.{◌≢◌}
-use Prim.Native.Nat.{ℕ, suc}
+use Prim.Native.Nat.{ℕ, suc, ◌+◌}
 use native.Mathlib.Omega.{arith}
 use lib.Dec.{T, eqb, eqb→eq}
 use lib.ListN.{length, get_or}
 use Rattle.scope.specs.Solids.{entry}
 use Rattle.scope.specs.Text.{word, Frame, other, operation, head, plane, node_row, end, plane_of, frame}
-use Rattle.frames.specs.Bytes.{Shape, head_shape, plane_shape, node_shape, end_shape, operation_shape, kind}
+use denote.Enum.Declared.{tag_of}
+use Rattle.frames.specs.Bytes.{Shape, head_shape, plane_shape, node_shape, end_shape, operation_shape, kind, first_byte}
+use Rattle.frames.specs.declared.Kind.{Kind}
+use Rattle.frames.specs.declared.Kind.TheVariants.{Head, Plane, Node, End, Operation}
+use Rattle.frames.specs.contracts.Kind as Kinds
 
 data Kinded : List ℕ → ℕ → Type 0 where
   no_frame : {bs : List ℕ} → Kinded bs 0
@@ -74,3 +78,11 @@ kinded_shape (framed r f) e s = (f ∙ shape_size r ∙ ap size e ∙ sym (shape
 
 pub kind_shape : (bs : List ℕ) {k n : ℕ} → Shape k n → kind (frame bs) ≡ k → (length bs ≡ n) × (get_or bs 0 0 ≡ k)
 kind_shape bs s e = kinded_shape (kinded bs) e s
+
+-- the first byte, as the code counts its kinds
+pub byte_is : (k : Kind) → tag_of Kinds.the_type k + 1 ≡ first_byte k
+byte_is Head = refl
+byte_is Plane = refl
+byte_is Node = refl
+byte_is End = refl
+byte_is Operation = refl

@@ -3,7 +3,7 @@
 --     head_told, operation_told, end_told, plane_told, node_told    its numbers, read from its bytes
 --     head_refused .. operation_refused          a refusal, by kind
 --     plane_kept, node_kept                      a refusal leaves the table as it was
-use mathlib.Core.Path.{◌≡◌, refl, sym, ap, subst, ◌∙◌}
+use mathlib.Core.Path.{◌≡◌, refl, sym, ap, ◌∙◌}
 use mathlib.Core.List.{List, [], ◌∷◌}
 use mathlib.Core.Logic.{◌≢◌}
 use Prim.Native.Nat.{ℕ, zero, suc, ◌+◌, ◌-◌, ◌*◌, ◌<◌}
@@ -11,11 +11,10 @@ use native.Mathlib.Omega.{arith}
 use lib.IntN.{ℤ}
 use lib.ListN.{length, get_or, drop}
 use lib.Seq.{sets}
-use Rattle.scope.specs.Text.{Frame, operation, head, end, plane_of, frame, frames}
-use Rattle.frames.specs.Bytes.{byte_of, bytes_of, word_of, axis_of, far_of, Shape}
-use Rattle.frames.specs.Promises.{Refuses, not_due, IsHead, is_head, IsPlane, is_plane, IsNode, is_node, IsEnd, is_end, IsOperation, is_operation, Reads, PlaneRead, NodeRead, WholeLine, OfKind, DueTold, EndTold, PlaneTold, NodeTold}
+use Rattle.scope.specs.Text.{word, long, signed, Frame, operation, head, end, plane_of, frame, frames}
+use Rattle.frames.specs.Bytes.{byte_of, bytes_of, Shape, head_shape, plane_shape, node_shape, end_shape, operation_shape}
+use Rattle.frames.specs.Promises.{Refuses, malformed, not_due, Follows, bad_follows, more_follows, IsHead, is_head, IsPlane, is_plane, IsNode, is_node, IsEnd, is_end, IsOperation, is_operation, Reads, PlaneRead, NodeRead, BadFirst, WholeLine, OfKind, DueRead}
 use Rattle.frames.specs.Follows.{refuses_of}
-use Rattle.frames.specs.declared.Got as Got
 use Rattle.frames.proofs.Shapes.{kind_shape}
 
 -- ---- the frame that is due
@@ -28,41 +27,50 @@ bytes_first : (t : List ℕ) (at n : ℕ) → 0 < n → bytes_of t at 0 n ≡ by
 bytes_first t at zero h = absurd (omega arith)
 bytes_first t at (suc n) h = let e : n ≡ suc n - 1 = omega arith in ap (λ m. byte_of t at 0 ∷ bytes_of t at 1 m) e
 
+pub due_bad : {wanted : Frame → Type 0} {fs : List Frame} {k : ℕ} → BadFirst fs × (k ≡ 1) → Refuses wanted fs k
+due_bad (h, e) = rw e (malformed h.is)
+
 module _ (t : List ℕ) (at k size n : ℕ) (w : WholeLine t at n) where
-  pub due_yes : n ≡ size → byte_of t at 0 ≡ k → Reads t at (frame (k ∷ bytes_of t at 1 (size - 1))) (2 * size + 1) (at + (2 * size + 1))
-  due_yes e f = rw (← e, ← f, ← bytes_first t at n w.some) w.reads
+  module _ {bs : List ℕ} (b : bs ≡ bytes_of t at 0 size) where
+    pub due_yes : n ≡ size → get_or bs 0 0 ≡ k → DueRead t at k size bs (at + (2 * size + 1))
+    due_yes e f =
+        let s : bs ≡ byte_of t at 0 ∷ bytes_of t at 1 (size - 1) = b ∙ bytes_first t at size (omega (arith, w.some)) in
+        let g : k ≡ byte_of t at 0 = sym f ∙ ap (λ l. get_or l 0 0) s in
+        record { bytes = b; reads = rw (← e, g, ← bytes_first t at n w.some) w.reads }
 
-  module _ (s : Shape k size) where
-    pub due_other_size : n ≢ size → Refuses (OfKind k) (frames (drop at t)) 2
-    due_other_size h = not_due w.reads.first w.good (λ e. h (rw bytes_length at (kind_shape (bytes_of t at 0 n) s e).0))
+    module _ (s : Shape k size) where
+      pub due_other_kind : n ≡ size → get_or bs 0 0 ≢ k → Refuses (OfKind k) (frames (drop at t)) 2
+      due_other_kind m h = not_due w.reads.first w.good (λ e. h (ap (λ l. get_or l 0 0) (b ∙ ap (bytes_of t at 0) (sym m)) ∙ (kind_shape (bytes_of t at 0 n) s e).1))
 
-    pub due_other_kind : byte_of t at 0 ≢ k → Refuses (OfKind k) (frames (drop at t)) 2
-    due_other_kind h = not_due w.reads.first w.good (λ e. h (ap (λ l. get_or l 0 0) (sym (bytes_first t at n w.some)) ∙ (kind_shape (bytes_of t at 0 n) s e).1))
+  pub due_other_size : Shape k size → n ≢ size → Refuses (OfKind k) (frames (drop at t)) 2
+  due_other_size s h = not_due w.reads.first w.good (λ e. h (rw bytes_length at (kind_shape (bytes_of t at 0 n) s e).0))
 
 -- ---- its numbers
 
-module _ (t : List ℕ) (at : ℕ) where
-  pub head_told : {n m r next : ℕ} → Reads t at (frame (1 ∷ bytes_of t at 1 5)) 13 next → n ≡ byte_of t at 1 → m ≡ word_of t at 2 → r ≡ word_of t at 4 → Reads t at (head n m r) 13 next
+module _ (t : List ℕ) (at : ℕ) {bs : List ℕ} {next : ℕ} where
+  pub head_told : {m r : ℕ} → DueRead t at 1 6 bs next → m ≡ word (get_or bs 2 0) (get_or bs 3 0) → r ≡ word (get_or bs 4 0) (get_or bs 5 0) → Reads t at (head (get_or bs 1 0) m r) 13 next
   unfolding frame
-  head_told d e f g = rw (e, f, g) d
+  head_told d e f = rw (e, f, d.bytes) d.reads
 
-  pub operation_told : {o next : ℕ} → Reads t at (frame (5 ∷ bytes_of t at 1 1)) 5 next → o ≡ byte_of t at 1 → Reads t at (operation o) 5 next
+  pub operation_told : DueRead t at 5 2 bs next → Reads t at (operation (get_or bs 1 0)) 5 next
   unfolding frame
-  operation_told d e = rw e d
+  operation_told d = rw d.bytes d.reads
 
-  pub end_told : {next : ℕ} → Reads t at (frame (4 ∷ bytes_of t at 1 0)) 3 next → Reads t at end 3 next
+  pub end_told : DueRead t at 4 1 bs next → Reads t at end 3 next
   unfolding frame
-  end_told d = d
+  end_told d = d.reads
 
-  pub node_told : (i : ℕ) {ns ns' : List ℕ} {n f b next : ℕ} → Reads t at (frame (3 ∷ bytes_of t at 1 5)) 13 next → n ≡ byte_of t at 1 → f ≡ word_of t at 2 → b ≡ word_of t at 4
-      → ns' ≡ sets ns (3 * i) (n ∷ f ∷ b ∷ []) → NodeRead t at i ns ns' next
+  pub node_told : (i : ℕ) {ns ns' : List ℕ} {f b : ℕ} → DueRead t at 3 6 bs next → f ≡ word (get_or bs 2 0) (get_or bs 3 0) → b ≡ word (get_or bs 4 0) (get_or bs 5 0)
+      → ns' ≡ sets ns (3 * i) (get_or bs 1 0 ∷ f ∷ b ∷ []) → NodeRead t at i ns ns' next
   unfolding frame
-  node_told i {n = n} {f = f} {b = b} d e g h s = record { plane_number = n; front = f; back = b; reads = rw (e, g, h) d; table = s }
+  node_told i {f = f} {b = b} d e g s = record { plane_number = get_or bs 1 0; front = f; back = b; reads = rw (e, g, d.bytes) d.reads; table = s }
 
-  pub plane_told : (i : ℕ) {ps ps' : List ℤ} {a b c d : ℤ} {next : ℕ} → Reads t at (frame (2 ∷ bytes_of t at 1 10)) 23 next → a ≡ axis_of t at 1 → b ≡ axis_of t at 3 → c ≡ axis_of t at 5 → d ≡ far_of t at 7
+  pub plane_told : (i : ℕ) {ps ps' : List ℤ} {a b c d : ℤ} → DueRead t at 2 11 bs next
+      → a ≡ signed 32768 (word (get_or bs 1 0) (get_or bs 2 0)) → b ≡ signed 32768 (word (get_or bs 3 0) (get_or bs 4 0)) → c ≡ signed 32768 (word (get_or bs 5 0) (get_or bs 6 0))
+      → d ≡ signed 2147483648 (long (word (get_or bs 7 0) (get_or bs 8 0)) (word (get_or bs 9 0) (get_or bs 10 0)))
       → ps' ≡ sets ps (4 * i) (a ∷ b ∷ c ∷ d ∷ []) → PlaneRead t at i ps ps' next
   unfolding frame plane_of
-  plane_told i {a = a} {b = b} {c = c} {d = d} r e f g h s = record { is = record { x = a; y = b; z = c; w = d }; reads = rw (e, f, g, h) r; table = s }
+  plane_told i {a = a} {b = b} {c = c} {d = d} r e f g h s = record { is = record { x = a; y = b; z = c; w = d }; reads = rw (e, f, g, h, r.bytes) r.reads; table = s }
 
 -- ---- refusals
 
@@ -97,15 +105,14 @@ module _ {fs : List Frame} {n : ℕ} where
   pub operation_refused : Refuses (OfKind 5) fs n → Refuses IsOperation fs n
   operation_refused = refuses_of operation_kind
 
--- the end has no number to read
-pub end_by_due : (t : List ℕ) (at : ℕ) (r : Got.Got) → DueTold t at 4 1 r → EndTold t at r
-end_by_due t at (Got.TheVariants.At c) d = end_told t at d
-end_by_due t at (Got.TheVariants.Refused k) d = end_refused d
+-- ---- after the end
 
--- a refusal leaves the table as it was
-module _ (t : List ℕ) (at i : ℕ) {r : Got.Got} {k : ℕ} (e : r ≡ Got.TheVariants.Refused k) where
-  pub plane_kept : (ps : List ℤ) → DueTold t at 2 11 r → PlaneTold t at i ps ps r
-  plane_kept ps d = subst (PlaneTold t at i ps ps) (sym e) (record { refuses = plane_refused (subst (DueTold t at 2 11) e d); table = refl })
+pub follows_bad : {fs : List Frame} {k : ℕ} → BadFirst fs × (k ≡ 1) → Follows fs k
+follows_bad (h, e) = rw e (bad_follows h.is)
 
-  pub node_kept : (ns : List ℕ) → DueTold t at 3 6 r → NodeTold t at i ns ns r
-  node_kept ns d = subst (NodeTold t at i ns ns) (sym e) (record { refuses = node_refused (subst (DueTold t at 3 6) e d); table = refl })
+pub follows_more : {t : List ℕ} {at n : ℕ} → WholeLine t at n → Follows (frames (drop at t)) 2
+follows_more w = more_follows w.reads.first w.good
+
+-- ---- what each call of `read.rt` needs
+
+pub ruleset told = (head_shape, operation_shape, end_shape, plane_shape, node_shape, head_told, operation_told, end_told, plane_told, node_told, head_refused, operation_refused, end_refused, plane_refused, node_refused, follows_bad, follows_more)

@@ -1,23 +1,24 @@
 -- The numbers that stand on a line of a text, by their places: what the code reads of a line that is known to be whole.
 --     digit_answer          a digit as the code tells it
 --     byte_of, bytes_of     the k-th byte of the line that begins at `at`, and n bytes from the k-th on
---     word_of, axis_of, far_of   a word, a coefficient of two bytes and one of four, from the k-th byte on
+--     word_of               a word, from the k-th byte on
 --     Shape, kind           the first byte of each frame that can be read, and how many bytes it has
-use Rattle.std.specs.Prelude.{List, [], ◌∷◌, ℕ, zero, suc, ◌+◌, ◌*◌, ℤ, get_or}
-use Rattle.std.proofs.Math.Option.{Option, none, some}
-use Rattle.scope.specs.Text.{digit, word, long, signed, Frame, bad, other, operation, head, plane, node_row, end}
-use Rattle.frames.specs.declared.DigitRead.{DigitRead}
-use Rattle.frames.specs.declared.DigitRead.TheVariants.{Value, Bad}
+--     first_byte            that byte, as the code names the frame
+use Rattle.std.specs.Prelude.{List, [], ◌∷◌, ℕ, zero, suc, ◌+◌, ◌*◌, get_or, Option, Some, None}
+use Rattle.std.proofs.Math.Option as Math
+use Rattle.scope.specs.Text.{digit, word, Frame, bad, other, operation, head, plane, node_row, end}
+use Rattle.frames.specs.declared.Kind.{Kind}
+use Rattle.frames.specs.declared.Kind.TheVariants.{Head, Plane, Node, End, Operation}
 
 -- ---- characters
 
-abbrev pub digit_answer : Option ℕ → DigitRead
-digit_answer none = Bad
-digit_answer (some n) = Value n
+abbrev pub digit_answer : Math.Option ℕ → Option ℕ
+digit_answer Math.none = None
+digit_answer (Math.some n) = Some n
 
-abbrev pub value_or : Option ℕ → ℕ
-value_or none = 0
-value_or (some n) = n
+abbrev pub value_or : Math.Option ℕ → ℕ
+value_or Math.none = 0
+value_or (Math.some n) = n
 
 -- the value of a character, 0 for one that is no digit
 unfoldable pub nibble_of : ℕ → ℕ
@@ -34,12 +35,6 @@ bytes_of t at k (suc n) = byte_of t at k ∷ bytes_of t at (suc k) n
 
 abbrev pub word_of : List ℕ → ℕ → ℕ → ℕ
 word_of t at k = word (byte_of t at k) (byte_of t at (k + 1))
-
-abbrev pub axis_of : List ℕ → ℕ → ℕ → ℤ
-axis_of t at k = signed 32768 (word_of t at k)
-
-abbrev pub far_of : List ℕ → ℕ → ℕ → ℤ
-far_of t at k = signed 2147483648 (long (word_of t at k) (word_of t at (k + 2)))
 
 -- ---- kinds
 
@@ -60,3 +55,11 @@ kind (head n m r) = 1
 kind (plane p) = 2
 kind (node_row e) = 3
 kind end = 4
+
+-- the first byte of the frame that the code names
+abbrev pub first_byte : Kind → ℕ
+first_byte Head = 1
+first_byte Plane = 2
+first_byte Node = 3
+first_byte End = 4
+first_byte Operation = 5

@@ -1,34 +1,45 @@
 // Frames, written: each call writes one line at `at`, capital hexadecimal ended by LF, and gives the position after it.
-ghost use Rattle.std.specs.Prelude.{◌≡◌, [], ◌∷◌, ◌+◌, ◌≤◌, length};
-ghost use Rattle.std.proofs.lemmas.List.Edits.{sets};
+#![tactic(auto, unfolding(scope::specs::Text::bytes, scope::specs::Text::refusal_line))]
+
+ghost use Rattle.std.specs.Prelude.{◌≡◌, ◌+◌, ◌*◌, ◌≤◌, length};
 ghost use Rattle.scope.specs.Solids.{entry};
-ghost use Rattle.scope.specs.Text.{hexes, line, word_bytes, bytes, head, plane, node_row, end, refusal_line};
+ghost use Rattle.scope.specs.Text.{line, bytes, head, plane, node_row, end, refusal_line};
 ghost use Rattle.theory.specs.Text.Frames.{Fits};
 ghost use Rattle.planes.specs.Values.{plane as numbers};
-ghost use Rattle.frames.specs.Promises.{Wrote, four_bytes};
+ghost use Rattle.frames.specs.Promises.{Wrote};
 
-use crate::characters::{put_byte, put_two, put_word};
-use crate::number::unsigned;
+use crate::characters::put_byte;
+use crate::{Head, Kind};
 use planes::Plane;
 
-// A line of 6 bytes: a kind, a number of one byte and two of two.
-pub fn put_six(text: &mut [u8], at: usize, k: u8, n: u8, v: u16, w: u16) -> usize
-    requires { at + 13 ≤ length text.old }
-    ensures { Wrote text.old text.new at (line (k ∷ n ∷ word_bytes v (word_bytes w []))) 13 result }
+// The first byte of a refusal, which is written only.
+const REFUSAL: u8 = 15;
+
+// A line of these bytes.
+pub fn put_line(text: &mut [u8], at: usize, bytes: &[u8]) -> usize
+    requires { at + (2 * length bytes.now + 1) ≤ length text.old }
+    ensures { Wrote text.old text.new at (line bytes.now) (2 * length bytes.now + 1) result }
 {
-    put_byte(text, at, k);
-    put_byte(text, at + 2, n);
-    put_two(text, at + 4, v, w);
-    text[at + 12] = 10;
-    at + 13
+    for (k, b) in bytes.iter().enumerate() {
+        put_byte(text, at + 2 * k, *b);
+    }
+    let end = at + 2 * bytes.len();
+    text[end] = b'\n';
+    end + 1
 }
 
-// The head of n planes, m nodes and a root code.
-pub fn put_head(text: &mut [u8], at: usize, n: usize, m: usize, root: u16) -> usize
-    requires { (at + 13 ≤ length text.old) × Fits (head n m root) }
-    ensures { Wrote text.old text.new at (line (bytes (head n m root))) 13 result }
+// A head.
+pub fn put_head(text: &mut [u8], at: usize, h: Head) -> usize
+    requires { (at + 13 ≤ length text.old) × Fits (head h.planes h.nodes h.root) }
+    ensures { Wrote text.old text.new at (line (bytes (head h.planes h.nodes h.root))) 13 result }
 {
-    put_six(text, at, 1, n as u8, m as u16, root)
+    let [m1, m0] = (h.nodes as u16).to_be_bytes();
+    let [r1, r0] = h.root.to_be_bytes();
+    put_line(
+        text,
+        at,
+        &[Kind::Head as u8, h.planes as u8, m1, m0, r1, r0],
+    )
 }
 
 // A node: plane number, front code, back code.
@@ -36,17 +47,9 @@ pub fn put_node(text: &mut [u8], at: usize, n: u16, f: u16, b: u16) -> usize
     requires { (at + 13 ≤ length text.old) × Fits (node_row (entry n f b)) }
     ensures { Wrote text.old text.new at (line (bytes (node_row (entry n f b)))) 13 result }
 {
-    put_six(text, at, 3, n as u8, f, b)
-}
-
-// Three words and one number of four bytes, written at `at`.
-pub fn put_four(text: &mut [u8], at: usize, a: u16, b: u16, c: u16, d: u32)
-    requires { at + 20 ≤ length text.old }
-    ensures { text.new ≡ sets text.old at (hexes (four_bytes a b c d)) }
-{
-    put_two(text, at, a, b);
-    put_word(text, at + 8, c);
-    put_two(text, at + 12, (d / 65536) as u16, (d % 65536) as u16);
+    let [f1, f0] = f.to_be_bytes();
+    let [b1, b0] = b.to_be_bytes();
+    put_line(text, at, &[Kind::Node as u8, n as u8, f1, f0, b1, b0])
 }
 
 // A plane.
@@ -54,14 +57,15 @@ pub fn put_plane(text: &mut [u8], at: usize, p: Plane) -> usize
     requires { (at + 23 ≤ length text.old) × Fits (plane (numbers p)) }
     ensures { Wrote text.old text.new at (line (bytes (plane (numbers p)))) 23 result }
 {
-    let a = unsigned(32768, p.a);
-    let b = unsigned(32768, p.b);
-    let c = unsigned(32768, p.c);
-    let d = unsigned(2147483648, p.d);
-    put_byte(text, at, 2);
-    put_four(text, at + 2, a as u16, b as u16, c as u16, d as u32);
-    text[at + 22] = 10;
-    at + 23
+    let [a1, a0] = (p.a as i16).to_be_bytes();
+    let [b1, b0] = (p.b as i16).to_be_bytes();
+    let [c1, c0] = (p.c as i16).to_be_bytes();
+    let [d3, d2, d1, d0] = (p.d as i32).to_be_bytes();
+    put_line(
+        text,
+        at,
+        &[Kind::Plane as u8, a1, a0, b1, b0, c1, c0, d3, d2, d1, d0],
+    )
 }
 
 // The end.
@@ -69,9 +73,7 @@ pub fn put_end(text: &mut [u8], at: usize) -> usize
     requires { at + 3 ≤ length text.old }
     ensures { Wrote text.old text.new at (line (bytes end)) 3 result }
 {
-    put_byte(text, at, 4);
-    text[at + 2] = 10;
-    at + 3
+    put_line(text, at, &[Kind::End as u8])
 }
 
 // A refusal's number.
@@ -79,8 +81,5 @@ pub fn put_refusal(text: &mut [u8], at: usize, n: u8) -> usize
     requires { at + 5 ≤ length text.old }
     ensures { Wrote text.old text.new at (refusal_line n) 5 result }
 {
-    put_byte(text, at, 15);
-    put_byte(text, at + 2, n);
-    text[at + 4] = 10;
-    at + 5
+    put_line(text, at, &[REFUSAL, n])
 }

@@ -1,8 +1,8 @@
 -- From the promises of the calls to scope's `judge_merge`.
 --     lent_rooms, solid_held                  a solid in tables that have room for every operand
---     last_told                               the last solid, and nothing after it
+--     last_refused, last_told                 the last solid, and nothing after it
 --     none_is, over_is, known_is, unknown     the operation's number
---     first_refused, both_told                A, then B
+--     first_refused, second_refused, both_read   A, then B
 --     text_long, no_operation, order_told     a text
 use mathlib.Core.Path.{◌≡◌, refl, sym, ap, subst, ◌∙◌}
 use mathlib.Core.Bool.{Bool, true, false, cond}
@@ -20,17 +20,16 @@ use Rattle.scope.specs.Text.{operation, frames}
 use Rattle.scope.specs.Judging.{Rooms, fresh, read, read_solid, finish, order_refused, second, first, known, with_operation, opening, judge_merge}
 use Rattle.scope.specs.Answers.{operand_rooms}
 use Rattle.frames.specs.Promises.{Reads, OperationTold}
-use Rattle.frames.specs.declared.OperationRead as OperationRead
 use Rattle.frames.specs.Follows.{operation_refuses}
-use Rattle.tables.specs.declared.Judgement as Judgement
+use Rattle.std.specs.Prelude.{Result, Ok, Err}
 use Rattle.tables.specs.declared.Solid.{Solid}
-use Rattle.lines.specs.declared.SolidRead as SolidRead
-use Rattle.solids.specs.Finish.{Finished, not_read as was-not-read, at_end, more}
+use Rattle.lines.specs.declared.SolidRead.{SolidRead}
+use Rattle.solids.specs.Finish.{Finished, at_end, more}
 use Rattle.lines.specs.Reading.{rooms, WholeSolid, SolidTold}
 use Rattle.lines.proofs.Whole.{finish_read, finish_more, finish_refused}
-use Rattle.inputs.specs.declared.OrderRead as OrderRead
+use Rattle.inputs.specs.declared.Order.{Order}
 use Rattle.inputs.specs.Orders.{HoldsSolid, OrderTold}
-use Rattle.inputs.specs.Steps.{LastTold, not_read, not_operation, order_of, after_operation, KnownTold}
+use Rattle.inputs.specs.Steps.{LastTold, after_operation, KnownTold}
 
 -- ---- a solid in tables with room for every operand
 
@@ -42,13 +41,16 @@ solid_held q = record { counts = q.counts; planes = q.plane_table; nodes = q.nod
 
 -- ---- the last solid
 
-pub last_told : (t : List ℕ) (from l : ℕ) {a : Rooms} (xs : List ℤ) (ns : List ℕ) {r : SolidRead.SolidRead} {j : Judgement.Judgement} → a ≡ operand_rooms → Finished t r j → SolidTold t from l a xs ns r → LastTold t from l xs ns j
-last_told t from l xs ns {r} ea f h = by f (subst (λ a. SolidTold t from l a xs ns r) ea h)
-  where
-    by : {r : SolidRead.SolidRead} {j : Judgement.Judgement} → Finished t r j → SolidTold t from l operand_rooms xs ns r → LastTold t from l xs ns j
-    by was-not-read h = finish_refused h
-    by (at_end e) h = record { is = h.is; held = solid_held h; sound = finish_read h.reading e }
-    by (more e) h = finish_more h.reading e
+module _ (t : List ℕ) (from l : ℕ) {a : Rooms} (xs : List ℤ) (ns : List ℕ) (ea : a ≡ operand_rooms) where
+  pub last_refused : {k j : ℕ} → SolidTold t from l a xs ns (Err (k, j)) → LastTold t from l xs ns (Err (k, j))
+  last_refused {k} {j} h = finish_refused (subst (λ a. SolidTold t from l a xs ns (Err (k, j))) ea h)
+
+  pub last_told : {r : SolidRead} {j : Result Solid (ℕ × ℕ)} → Finished t r j → SolidTold t from l a xs ns (Ok r) → LastTold t from l xs ns j
+  last_told {r} f h = by f (subst (λ a. SolidTold t from l a xs ns (Ok r)) ea h)
+    where
+      by : {j : Result Solid (ℕ × ℕ)} → Finished t r j → SolidTold t from l operand_rooms xs ns (Ok r) → LastTold t from l xs ns j
+      by (at_end e) h = record { is = h.is; held = solid_held h; sound = finish_read h.reading e }
+      by (more e) h = finish_more h.reading e
 
 -- ---- the operation
 
@@ -77,20 +79,19 @@ module _ (t : List ℕ) (from op : ℕ) where
     by_first = ap (λ b. with_operation operand_rooms b op (frames (drop from t))) e
 
     -- A is refused
-    pub first_refused : (ps : List ℤ) (ns : List ℕ) (bp : List ℤ) (bn : List ℕ) {z : SolidRead.SolidRead} {k l : ℕ} → z ≡ SolidRead.TheVariants.Refused k l → SolidTold t from 2 a ps ns z → {r : OrderRead.OrderRead} → r ≡ not_read z → KnownTold (after_operation t from op) ps ns bp bn r
-    first_refused ps ns bp bn {k = k} {l = l} f h g = rw (g ∙ ap not_read f) (by_first ∙ ap (first operand_rooms op) (subst (λ a. SolidTold t from 2 a ps ns (SolidRead.TheVariants.Refused k l)) ea (subst (SolidTold t from 2 a ps ns) f h)))
+    pub first_refused : (ps : List ℤ) (ns : List ℕ) (bp : List ℤ) (bn : List ℕ) {k l : ℕ} → SolidTold t from 2 a ps ns (Err (k, l)) → KnownTold (after_operation t from op) ps ns bp bn (Err (k, l))
+    first_refused ps ns bp bn {k} {l} h = by_first ∙ ap (first operand_rooms op) (subst (λ a. SolidTold t from 2 a ps ns (Err (k, l))) ea h)
 
     -- A is read, then B
     module _ {s : Solid} {ps : List ℤ} {ns : List ℕ} {next l : ℕ} (q : WholeSolid t from 2 a s ps ns next l) (bp : List ℤ) (bn : List ℕ) where
       by_second : after_operation t from op ≡ second op q.is (finish (read_solid operand_rooms fresh l (frames (drop next t))))
       by_second = by_first ∙ ap (first operand_rooms op) (subst (λ a. read_solid a fresh 2 (frames (drop from t)) ≡ read q.is l (frames (drop next t))) ea q.reading)
 
-      pub both_told : (j : Judgement.Judgement) {r : OrderRead.OrderRead} → LastTold t next l bp bn j → r ≡ order_of op s j → KnownTold (after_operation t from op) ps ns bp bn r
-      both_told j h f = subst (KnownTold (after_operation t from op) ps ns bp bn) (sym f) (by j h)
-        where
-          by : (j : Judgement.Judgement) → LastTold t next l bp bn j → KnownTold (after_operation t from op) ps ns bp bn (order_of op s j)
-          by (Judgement.TheVariants.Sound u) h = record { first = q.is; second = h.is; judged = by_second ∙ ap (second op q.is) h.sound; first_held = solid_held q; second_held = h.held }
-          by (Judgement.TheVariants.Refused k l) h = by_second ∙ ap (second op q.is) h
+      pub second_refused : {k j : ℕ} → LastTold t next l bp bn (Err (k, j)) → KnownTold (after_operation t from op) ps ns bp bn (Err (k, j))
+      second_refused h = by_second ∙ ap (second op q.is) h
+
+      pub both_read : {u : Solid} → LastTold t next l bp bn (Ok u) → KnownTold (after_operation t from op) ps ns bp bn (Ok (record { op = op; a = s; b = u }))
+      both_read h = record { first = q.is; second = h.is; judged = by_second ∙ ap (second op q.is) h.sound; first_held = solid_held q; second_held = h.held }
 
 -- ---- a text
 
@@ -104,14 +105,14 @@ module _ (t : List ℕ) where
     unfolding judge_merge
     by_opening = ap (λ b. cond b (opening operand_rooms (frames t)) (order_refused 3 0)) (le-leb (length t) most_text short)
 
-    pub no_operation : (ps : List ℤ) (ns : List ℕ) (bp : List ℤ) (bn : List ℕ) {z : OperationRead.OperationRead} {k : ℕ} → z ≡ OperationRead.TheVariants.Refused k → OperationTold t 0 z → {r : OrderRead.OrderRead} → r ≡ not_operation z → OrderTold t ps ns bp bn r
-    no_operation ps ns bp bn e h f = rw (f ∙ ap not_operation e) (by_opening ∙ operation_refuses operand_rooms (frames t) (subst (OperationTold t 0) e h))
+    pub no_operation : (ps : List ℤ) (ns : List ℕ) (bp : List ℤ) (bn : List ℕ) {k : ℕ} → OperationTold t 0 (Err k) → OrderTold t ps ns bp bn (Err (k, 1))
+    no_operation ps ns bp bn h = by_opening ∙ operation_refuses operand_rooms (frames t) h
 
     module _ {op next : ℕ} (h : Reads t 0 (operation op) 5 next) where
       opened : judge_merge operand_rooms t ≡ after_operation t next op
       unfolding opening
       opened = by_opening ∙ ap (opening operand_rooms) h.first
 
-      pub order_told : (ps : List ℤ) (ns : List ℕ) (bp : List ℤ) (bn : List ℕ) (r : OrderRead.OrderRead) → KnownTold (after_operation t next op) ps ns bp bn r → OrderTold t ps ns bp bn r
-      order_told ps ns bp bn (OrderRead.TheVariants.Order o s u) q = record { first = q.first; second = q.second; judged = opened ∙ q.judged; first_held = q.first_held; second_held = q.second_held }
-      order_told ps ns bp bn (OrderRead.TheVariants.Refused k l) q = opened ∙ q
+      pub order_told : (ps : List ℤ) (ns : List ℕ) (bp : List ℤ) (bn : List ℕ) (r : Result Order (ℕ × ℕ)) → KnownTold (after_operation t next op) ps ns bp bn r → OrderTold t ps ns bp bn r
+      order_told ps ns bp bn (Ok o) q = record { first = q.first; second = q.second; judged = opened ∙ q.judged; first_held = q.first_held; second_held = q.second_held }
+      order_told ps ns bp bn (Err (k, l)) q = opened ∙ q

@@ -2,13 +2,13 @@
 --     OrderIn            tables of zeros with room for every operand
 --     OrderHeld          the operation and the tables of the two solids, and where they stand
 --     OrderTold          the order of the text, or its refusal
-use Rattle.std.specs.Prelude.{◌≡◌, List, ℕ, ◌≤◌, ℤ, pos, length}
+use Rattle.std.specs.Prelude.{◌≡◌, List, ℕ, ◌≤◌, ℤ, pos, length, Result, Ok, Err}
 use Rattle.scope.specs.Solids.{Tables}
 use Rattle.scope.specs.Judging.{order, order_refused, judge_merge}
 use Rattle.scope.specs.Answers.{plane_numbers, node_numbers, filled, operand_rooms}
 use Rattle.tables.specs.declared.Solid.{Solid}
 use Rattle.lines.specs.Reading.{Blank, solid_of}
-use Rattle.inputs.specs.declared.OrderRead as OrderRead
+use Rattle.inputs.specs.declared.Order.{Order}
 
 -- tables of 64 plane rows and 1,000 node rows, all zeros, and a work table of zeros
 pub record OrderIn (ap : List ℤ) (an : List ℕ) (bp : List ℤ) (bn : List ℕ) (w : List ℤ) : Type 0 where
@@ -33,6 +33,6 @@ pub record OrderHeld (t : List ℕ) (ap : List ℤ) (an : List ℕ) (bp : List �
   pub first_held : HoldsSolid first s ap an
   pub second_held : HoldsSolid second u bp bn
 
-abbrev pub OrderTold : List ℕ → List ℤ → List ℕ → List ℤ → List ℕ → OrderRead.OrderRead → Type 0
-OrderTold t ap an bp bn (OrderRead.TheVariants.Order op s u) = OrderHeld t ap an bp bn op s u
-OrderTold t ap an bp bn (OrderRead.TheVariants.Refused k l) = judge_merge operand_rooms t ≡ order_refused k l
+abbrev pub OrderTold : List ℕ → List ℤ → List ℕ → List ℤ → List ℕ → Result Order (ℕ × ℕ) → Type 0
+OrderTold t ap an bp bn (Ok o) = OrderHeld t ap an bp bn o.op o.a o.b
+OrderTold t ap an bp bn (Err (k, l)) = judge_merge operand_rooms t ≡ order_refused k l

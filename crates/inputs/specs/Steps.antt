@@ -1,19 +1,14 @@
 -- What the steps of reading an order promise.
 --     LastIn, LastTold     a solid after which nothing may follow
---     not_read, not_operation   the refusals of A and of the operation's line
---     order_of             the answer, from the counts of A and the judgement of B
 --     after_operation      judging what stands below an operation
 --     KnownIn, KnownTold   the operation and the two solids
-use Rattle.std.specs.Prelude.{◌≡◌, List, ℕ, ◌≤◌, ℤ, pos, length, drop, replicate}
+use Rattle.std.specs.Prelude.{◌≡◌, List, ℕ, ◌≤◌, ℤ, pos, length, drop, replicate, Result, Ok, Err}
 use Rattle.scope.specs.Solids.{Tables}
 use Rattle.scope.specs.Text.{frames}
 use Rattle.scope.specs.Judging.{fresh, read_solid, accepted, refusal, finish, MergeInput, order, order_refused, known, with_operation}
 use Rattle.scope.specs.Answers.{operand_rooms}
-use Rattle.tables.specs.declared.Judgement as Judgement
 use Rattle.tables.specs.declared.Solid.{Solid}
-use Rattle.frames.specs.declared.OperationRead as OperationRead
-use Rattle.lines.specs.declared.SolidRead as SolidRead
-use Rattle.inputs.specs.declared.OrderRead as OrderRead
+use Rattle.inputs.specs.declared.Order.{Order}
 use Rattle.inputs.specs.Orders.{OrderIn, HoldsSolid}
 
 -- ---- the last solid, from `from` on, where line l is
@@ -33,24 +28,11 @@ pub record LastRead (t : List ℕ) (from l : ℕ) (s : Solid) (xs : List ℤ) (n
   pub held : HoldsSolid is s xs ns
   pub sound : finish (read_solid operand_rooms fresh l (frames (drop from t))) ≡ accepted is
 
-abbrev pub LastTold : List ℕ → ℕ → ℕ → List ℤ → List ℕ → Judgement.Judgement → Type 0
-LastTold t from l xs ns (Judgement.TheVariants.Sound s) = LastRead t from l s xs ns
-LastTold t from l xs ns (Judgement.TheVariants.Refused k j) = finish (read_solid operand_rooms fresh l (frames (drop from t))) ≡ refusal k j
+abbrev pub LastTold : List ℕ → ℕ → ℕ → List ℤ → List ℕ → Result Solid (ℕ × ℕ) → Type 0
+LastTold t from l xs ns (Ok s) = LastRead t from l s xs ns
+LastTold t from l xs ns (Err (k, j)) = finish (read_solid operand_rooms fresh l (frames (drop from t))) ≡ refusal k j
 
 -- ---- operation, A and B
-
--- the number of a refusal; an answer that is none has no number, and 0 is told
-abbrev pub not_read : SolidRead.SolidRead → OrderRead.OrderRead
-not_read (SolidRead.TheVariants.Refused k l) = OrderRead.TheVariants.Refused k l
-not_read (SolidRead.TheVariants.Read s c l) = OrderRead.TheVariants.Refused 0 l
-
-abbrev pub not_operation : OperationRead.OperationRead → OrderRead.OrderRead
-not_operation (OperationRead.TheVariants.Refused k) = OrderRead.TheVariants.Refused k 1
-not_operation (OperationRead.TheVariants.Operation op c) = OrderRead.TheVariants.Refused 0 1
-
-abbrev pub order_of : ℕ → Solid → Judgement.Judgement → OrderRead.OrderRead
-order_of op s (Judgement.TheVariants.Sound u) = OrderRead.TheVariants.Order op s u
-order_of op s (Judgement.TheVariants.Refused k l) = OrderRead.TheVariants.Refused k l
 
 -- an operation that stands on line 1, and the text from `from` on, where line 2 is
 abbrev pub after_operation : List ℕ → ℕ → ℕ → MergeInput
@@ -68,6 +50,6 @@ pub record KnownHeld (x : MergeInput) (ap : List ℤ) (an : List ℕ) (bp : List
   pub first_held : HoldsSolid first s ap an
   pub second_held : HoldsSolid second u bp bn
 
-abbrev pub KnownTold : MergeInput → List ℤ → List ℕ → List ℤ → List ℕ → OrderRead.OrderRead → Type 0
-KnownTold x ap an bp bn (OrderRead.TheVariants.Order op s u) = KnownHeld x ap an bp bn op s u
-KnownTold x ap an bp bn (OrderRead.TheVariants.Refused k l) = x ≡ order_refused k l
+abbrev pub KnownTold : MergeInput → List ℤ → List ℕ → List ℤ → List ℕ → Result Order (ℕ × ℕ) → Type 0
+KnownTold x ap an bp bn (Ok o) = KnownHeld x ap an bp bn o.op o.a o.b
+KnownTold x ap an bp bn (Err (k, l)) = x ≡ order_refused k l

@@ -1,51 +1,48 @@
--- The answers of one line, put together.
---     plane_refused, plane_judged_line   a plane's line, from what `plane_at` and `judge_plane` told
---     node_refused, node_pushed_line     a node's line
---     end_refused, end_judged_line       the end's line
-use mathlib.Core.Path.{◌≡◌, sym, subst}
+-- The answers of one line, put together: what a call told of the frame, and the judgement of what it read.
+--     head_read .. end_read   a head's line, a plane's, a node's and the end's, from what the two calls told
+--     told                    all of them
+use mathlib.Core.Path.{◌≡◌, sym}
 use mathlib.Core.List.{List}
 use Prim.Native.Nat.{ℕ}
 use lib.Dec.{leb}
 use lib.IntN.{ℤ}
+use lib.ListN.{drop}
+use Rattle.std.specs.Prelude.{Ok, Err}
+use Rattle.scope.specs.Text.{frames, head, end}
+use Rattle.scope.specs.Judging.{Rooms, judge_head}
 use Rattle.frames.specs.declared.Cursor.{Cursor}
-use Rattle.frames.specs.declared.Got as Got
-use Rattle.frames.specs.Promises.{PlaneTold, NodeTold, EndTold}
-use Rattle.tables.specs.declared.Judged as Judged
-use Rattle.tables.specs.declared.Pushed as Pushed
+use Rattle.frames.specs.Promises.{IsPlane, IsNode, Reads, PlaneRead, Kept}
+use Rattle.tables.specs.declared.Solid.{Solid}
 use Rattle.tables.specs.Work.{all_marked}
-use Rattle.tables.specs.Promises.{plane_judged, end_judged, Pushes}
-use Rattle.lines.specs.declared.LinesRead as LinesRead
-use Rattle.lines.specs.Lines.{PlaneLine, plane_taken, no_plane, bad_plane, NodeLine, node_taken, no_node, bad_node, EndLine, end_taken, no_end, bad_end, on, pushed_on}
+use Rattle.tables.specs.Promises.{judged, plane_judged, end_judged}
+use Rattle.lines.specs.Lines.{HeadLine, head_taken, no_head, bad_head, PlaneLine, plane_taken, no_plane, bad_plane, NodeLine, node_taken, no_node, bad_node, EndLine, end_taken, no_end, bad_end}
 
-module _ {t : List ℕ} {at i : ℕ} {xs xs' : List ℤ} {g : Got.Got} (l : ℕ) (h : PlaneTold t at i xs xs' g) where
-  pub plane_refused : {k : ℕ} → g ≡ Got.TheVariants.Refused k → PlaneLine t at i xs xs' l (LinesRead.TheVariants.Refused k l)
-  plane_refused e = no_plane (subst (PlaneTold t at i xs xs') e h).refuses
+module _ {t : List ℕ} {at : ℕ} {a : Rooms} where
+  pub head_read : {s : Solid} {c : Cursor} → Reads t at (head s.planes s.nodes s.root) 13 c.at → Ok tt ≡ judged (judge_head a s.planes s.nodes s.root) → HeadLine t at a (Ok (s, c))
+  head_read r e = head_taken r (sym e)
 
-  pub plane_judged_line : {c : Cursor} {j : Judged.Judged} {r : LinesRead.LinesRead} → g ≡ Got.TheVariants.At c → j ≡ plane_judged xs' i → r ≡ on j c l → PlaneLine t at i xs xs' l r
-  plane_judged_line {c} {j} e f o = subst (PlaneLine t at i xs xs' l) (sym o) (by j (sym f))
-    where
-      by : (j : Judged.Judged) → plane_judged xs' i ≡ j → PlaneLine t at i xs xs' l (on j c l)
-      by Judged.TheVariants.Fine f = plane_taken (subst (PlaneTold t at i xs xs') e h) f
-      by (Judged.TheVariants.Refused k) f = bad_plane (subst (PlaneTold t at i xs xs') e h) f
+  pub head_bad : {n m r k next : ℕ} → Reads t at (head n m r) 13 next → Err k ≡ judged (judge_head a n m r) → HeadLine t at a (Err k)
+  head_bad r e = bad_head r (sym e)
 
-module _ {t : List ℕ} {at i : ℕ} {ns ns' : List ℕ} {g : Got.Got} (n depth l : ℕ) (w w' : List ℤ) (h : NodeTold t at i ns ns' g) where
-  pub node_refused : {k : ℕ} → g ≡ Got.TheVariants.Refused k → NodeLine t at n i ns ns' w w' depth l (LinesRead.TheVariants.Refused k l)
-  node_refused e = no_node (subst (NodeTold t at i ns ns') e h).refuses
+module _ {t : List ℕ} {at i : ℕ} {xs xs' : List ℤ} where
+  pub plane_read : {c : Cursor} → PlaneRead t at i xs xs' c.at → Ok tt ≡ plane_judged xs' i → PlaneLine t at i xs xs' (Ok c)
+  plane_read r e = plane_taken r (sym e)
 
-  pub node_pushed_line : {c : Cursor} (p : Pushed.Pushed) {r : LinesRead.LinesRead} → g ≡ Got.TheVariants.At c → Pushes ns' n i w depth w' p → r ≡ pushed_on p c l → NodeLine t at n i ns ns' w w' depth l r
-  node_pushed_line {c} p e f o = subst (NodeLine t at n i ns ns' w w' depth l) (sym o) (by p f)
-    where
-      by : (p : Pushed.Pushed) → Pushes ns' n i w depth w' p → NodeLine t at n i ns ns' w w' depth l (pushed_on p c l)
-      by (Pushed.TheVariants.Depth d) f = node_taken (subst (NodeTold t at i ns ns') e h) f
-      by (Pushed.TheVariants.Refused k) f = bad_node (subst (NodeTold t at i ns ns') e h) f
+  pub plane_bad : {k next : ℕ} → PlaneRead t at i xs xs' next → Err k ≡ plane_judged xs' i → PlaneLine t at i xs xs' (Err k)
+  plane_bad r e = bad_plane r (sym e)
 
-module _ {t : List ℕ} {at : ℕ} {g : Got.Got} (n depth l : ℕ) (w : List ℤ) (h : EndTold t at g) where
-  pub end_refused : {k : ℕ} → g ≡ Got.TheVariants.Refused k → EndLine t at n w depth l (LinesRead.TheVariants.Refused k l)
-  end_refused e = no_end (subst (EndTold t at) e h)
+  pub plane_missing : {k : ℕ} → Kept IsPlane (frames (drop at t)) k xs xs' → PlaneLine t at i xs xs' (Err k)
+  plane_missing h = no_plane h.refuses
 
-  pub end_judged_line : {c : Cursor} {j : Judged.Judged} {r : LinesRead.LinesRead} → g ≡ Got.TheVariants.At c → j ≡ end_judged (all_marked w n) (leb depth 1) → r ≡ on j c l → EndLine t at n w depth l r
-  end_judged_line {c} {j} e f o = subst (EndLine t at n w depth l) (sym o) (by j (sym f))
-    where
-      by : (j : Judged.Judged) → end_judged (all_marked w n) (leb depth 1) ≡ j → EndLine t at n w depth l (on j c l)
-      by Judged.TheVariants.Fine f = end_taken (subst (EndTold t at) e h) f
-      by (Judged.TheVariants.Refused k) f = bad_end (subst (EndTold t at) e h) f
+module _ {t : List ℕ} {at n i : ℕ} {ns ns' : List ℕ} {w w' : List ℤ} {depth : ℕ} where
+  pub node_missing : {k : ℕ} → Kept IsNode (frames (drop at t)) k ns ns' → NodeLine t at n i ns ns' w w' depth (Err k)
+  node_missing h = no_node h.refuses
+
+module _ {t : List ℕ} {at n : ℕ} {w : List ℤ} {depth : ℕ} where
+  pub end_read : {c : Cursor} → Reads t at end 3 c.at → Ok tt ≡ end_judged (all_marked w n) (leb depth 1) → EndLine t at n w depth (Ok c)
+  end_read r e = end_taken r (sym e)
+
+  pub end_bad : {k next : ℕ} → Reads t at end 3 next → Err k ≡ end_judged (all_marked w n) (leb depth 1) → EndLine t at n w depth (Err k)
+  end_bad r e = bad_end r (sym e)
+
+pub ruleset told = (head_read, head_bad, no_head, plane_read, plane_bad, plane_missing, node_taken, bad_node, node_missing, end_read, end_bad, no_end)

@@ -5,12 +5,12 @@ use mathlib.Core.Path.{◌≡◌, refl, ap, ◌∙◌}
 use mathlib.Core.Bool.{Bool, true, false}
 use mathlib.Core.List.{List, ◌∷◌}
 use mathlib.Core.Option.{Option, none, some}
+use Rattle.std.specs.Prelude.{⊤, Result, Ok, Err}
 use Prim.Native.Nat.{ℕ, suc}
 use Rattle.scope.specs.Planes.{Fault}
 use Rattle.scope.specs.Solids.{Tables}
 use Rattle.scope.specs.Text.{Frame}
 use Rattle.scope.specs.Judging.{Rooms, State, fresh, Step, go, done, stop, head_by, plane_by, end_by, step, read, refused, next, read_solid}
-use Rattle.tables.specs.declared.Judged as Judged
 use Rattle.tables.specs.Promises.{judged, end_judged}
 
 -- ---- one line
@@ -31,9 +31,9 @@ module _ (s : Rooms) (c : State) {f : Frame} {fs gs : List Frame} (l : ℕ) (e :
 
 -- ---- from the code's answers
 
-abbrev pub as_step : Judged.Judged → Step → Step
-as_step Judged.TheVariants.Fine x = x
-as_step (Judged.TheVariants.Refused k) x = stop k
+abbrev pub as_step : Result ⊤ ℕ → Step → Step
+as_step (Ok u) x = x
+as_step (Err k) x = stop k
 
 pub head_step : (b c d : Bool) (s : State) → head_by b c d s ≡ as_step (judged (head_by b c d s)) (go s)
 head_step false c d s = refl

@@ -8,6 +8,7 @@ use mathlib.Core.Path.{◌≡◌, refl, sym, ap, subst, ◌∙◌}
 use mathlib.Core.Bool.{not}
 use mathlib.Core.List.{List, [], ◌∷◌, ◌++◌}
 use mathlib.Core.Option.{Option, none, some}
+use Rattle.std.specs.Prelude.{Ok, Err}
 use Prim.Native.Nat.{ℕ, suc, ◌+◌, ◌-◌, ◌*◌, ◌≤◌, ◌<◌}
 use native.Mathlib.Omega.{arith}
 use lib.Dec.{eqb}
@@ -27,7 +28,6 @@ use Rattle.frames.specs.Follows.{node_refuses}
 use Rattle.frames.specs.Promises.{NodeRead}
 use Rattle.tables.specs.Rows.{entry_at}
 use Rattle.tables.specs.Work.{stack, total, marked}
-use Rattle.lines.specs.declared.LinesRead as LinesRead
 use Rattle.lines.specs.Lines.{NodeLine, node_taken, no_node, bad_node}
 use Rattle.lines.specs.Reading.{HoldsNodes, NodesOver}
 use Rattle.lines.proofs.Lines.{line_goes, line_refused}
@@ -37,7 +37,7 @@ pub no_marks : (w : List ℤ) → 1064 ≤ length w → w ≡ replicate (length 
 unfolding marked uses
 no_marks w room z k l = ap (λ v. not (is_zero v)) (ap (λ v. get_or v (1000 + k) (pos 0)) z ∙ get_or-replicate (length w) (1000 + k) (pos 0) (pos 0) (omega (arith, room, l)))
 
-pub node_inside : {t : List ℕ} {at n i : ℕ} {ns ns' : List ℕ} {w w' : List ℤ} {depth l : ℕ} {c : Cursor} {d : ℕ} → NodeLine t at n i ns ns' w w' depth l (LinesRead.TheVariants.At c d) → (c.at ≤ length t) × (d ≤ i + 1) × (total (stack w' d) ≤ i + 1)
+pub node_inside : {t : List ℕ} {at n i : ℕ} {ns ns' : List ℕ} {w w' : List ℤ} {depth : ℕ} {c : Cursor} {d : ℕ} → NodeLine t at n i ns ns' w w' depth (Ok (c, d)) → (c.at ≤ length t) × (d ≤ i + 1) × (total (stack w' d) ≤ i + 1)
 node_inside (node_taken a h) = (a.reads.inside, h.deep, h.sizes)
 
 pub nodes_start : (ps : List Plane) (t : List ℕ) (from l m : ℕ) (ns : List ℕ) (w : List ℤ) → ns ≡ replicate (length ns) 0 → ((k : ℕ) → k < 64 → marked w k ≡ uses k []) → NodesOver ps t from l m ns w 0 from 0
@@ -102,7 +102,7 @@ module _ {ps : List Plane} {t : List ℕ} {from l m : ℕ} {ns : List ℕ} {w : 
     number : entry_number (entry_at ns' i) ≡ a.plane_number
     number = ap entry_number here
 
-  pub nodes_next : {ns' : List ℕ} {w' : List ℤ} {c : Cursor} {d : ℕ} → NodeLine t at n i ns ns' w w' depth (l + i) (LinesRead.TheVariants.At c d) → NodesOver ps t from l m ns' w' (i + 1) c.at d
+  pub nodes_next : {ns' : List ℕ} {w' : List ℤ} {c : Cursor} {d : ℕ} → NodeLine t at n i ns ns' w w' depth (Ok (c, d)) → NodesOver ps t from l m ns' w' (i + 1) c.at d
   nodes_next {ns'} {w'} {c} {d} (node_taken a h) = subst (λ k. NodesOver ps t from l m ns' w' k c.at d) {x = suc i} {y = i + 1} (omega arith) (record {
     entries = q.entries ++ (is a ∷ []);
     trees = x.trees;
@@ -119,7 +119,7 @@ module _ {ps : List Plane} {t : List ℕ} {from l m : ℕ} {ns : List ℕ} {w : 
       line : suc (l + i) ≡ l + suc i
       line = omega arith
 
-  pub nodes_refused : {ns' : List ℕ} {w' : List ℤ} {k j : ℕ} → NodeLine t at n i ns ns' w w' depth (l + i) (LinesRead.TheVariants.Refused k j) → (s : Rooms) (r : ℕ) (p : Option Plane) → read_solid s (busy 0 m r p ps [] []) l (frames (drop from t)) ≡ refused k j
+  pub nodes_refused : {ns' : List ℕ} {w' : List ℤ} {k : ℕ} → NodeLine t at n i ns ns' w w' depth (Err k) → (s : Rooms) (r : ℕ) (p : Option Plane) → read_solid s (busy 0 m r p ps [] []) l (frames (drop from t)) ≡ refused k (l + i)
   nodes_refused (no_node h) s r p = before s r (m - suc i) p (omega (arith, more)) ∙ node_refuses s (l + i) (frames (drop at t)) r p ps q.entries q.trees (m - suc i) h
   nodes_refused (bad_node a h) s r p =
       before s r (m - suc i) p (omega (arith, more))

@@ -5,6 +5,7 @@
 use mathlib.Core.Path.{◌≡◌, refl, sym, ap, subst, ◌∙◌}
 use mathlib.Core.List.{List, [], ◌∷◌, ◌++◌}
 use mathlib.Core.Option.{none, some}
+use Rattle.std.specs.Prelude.{⊤, Result, Ok, Err}
 use Prim.Native.Nat.{ℕ, suc, ◌+◌, ◌-◌, ◌*◌, ◌≤◌, ◌<◌}
 use native.Mathlib.Omega.{arith}
 use lib.IntN.{ℤ, pos}
@@ -17,10 +18,8 @@ use Rattle.scope.specs.Answers.{flat_planes}
 use Rattle.frames.specs.declared.Cursor.{Cursor}
 use Rattle.frames.specs.Follows.{plane_refuses}
 use Rattle.frames.specs.Promises.{PlaneRead}
-use Rattle.tables.specs.declared.Judged as Judged
 use Rattle.tables.specs.Rows.{plane_at, last_before}
 use Rattle.tables.specs.Promises.{judged, plane_judged}
-use Rattle.lines.specs.declared.LinesRead as LinesRead
 use Rattle.lines.specs.Lines.{PlaneLine, plane_taken, no_plane, bad_plane}
 use Rattle.lines.specs.Reading.{HoldsPlanes, PlanesSoFar}
 use Rattle.lines.proofs.Lines.{line_goes, line_refused, as_step, plane_step}
@@ -58,7 +57,7 @@ module _ {t : List ℕ} {from l n : ℕ} {xs : List ℤ} {i at : ℕ} (q : Plane
     kept = ap (last_before xs') (sym q.count) ∙ last_kept xs xs' q.planes a.is q.table held ∙ ap (last_before xs) q.count
 
     -- the line, judged as the code has judged it
-    stepped : {j : Judged.Judged} → plane_judged xs' i ≡ j → (s : Rooms) (m r rest : ℕ) → step s (busy (suc rest) m r (last_before xs i) q.planes [] []) (plane a.is) ≡ as_step j (go (busy rest m r (some a.is) (q.planes ++ (a.is ∷ [])) [] []))
+    stepped : {j : Result ⊤ ℕ} → plane_judged xs' i ≡ j → (s : Rooms) (m r rest : ℕ) → step s (busy (suc rest) m r (last_before xs i) q.planes [] []) (plane a.is) ≡ as_step j (go (busy rest m r (some a.is) (q.planes ++ (a.is ∷ [])) [] []))
     unfolding step
     stepped {j} e s m r rest =
         plane_step (fault a.is) (follows (last_before xs i) a.is) after
@@ -67,7 +66,7 @@ module _ {t : List ℕ} {from l n : ℕ} {xs : List ℤ} {i at : ℕ} (q : Plane
         after : State
         after = busy rest m r (some a.is) (q.planes ++ (a.is ∷ [])) [] []
 
-  pub planes_next : {xs' : List ℤ} {c : Cursor} {d : ℕ} → PlaneLine t at i xs xs' (l + i) (LinesRead.TheVariants.At c d) → PlanesSoFar t from l n xs' (i + 1) c.at
+  pub planes_next : {xs' : List ℤ} {c : Cursor} → PlaneLine t at i xs xs' (Ok c) → PlanesSoFar t from l n xs' (i + 1) c.at
   planes_next {xs'} {c} (plane_taken a e) = subst (λ k. PlanesSoFar t from l n xs' k c.at) {x = suc i} {y = i + 1} (omega arith) (record {
     planes = q.planes ++ (a.is ∷ []);
     count = length-append q.planes (a.is ∷ []) ∙ omega (arith, q.count);
@@ -79,6 +78,6 @@ module _ {t : List ℕ} {from l n : ℕ} {xs : List ℤ} {i at : ℕ} (q : Plane
       line : suc (l + i) ≡ l + suc i
       line = omega arith
 
-  pub planes_refused : {xs' : List ℤ} {k j : ℕ} → PlaneLine t at i xs xs' (l + i) (LinesRead.TheVariants.Refused k j) → (s : Rooms) (m r : ℕ) → read_solid s (busy n m r none [] [] []) l (frames (drop from t)) ≡ refused k j
+  pub planes_refused : {xs' : List ℤ} {k : ℕ} → PlaneLine t at i xs xs' (Err k) → (s : Rooms) (m r : ℕ) → read_solid s (busy n m r none [] [] []) l (frames (drop from t)) ≡ refused k (l + i)
   planes_refused (no_plane h) s m r = before s m r (n - suc i) (omega (arith, more)) ∙ plane_refuses s (l + i) (frames (drop at t)) r (last_before xs i) q.planes [] [] (n - suc i) m h
   planes_refused (bad_plane a e) s m r = before s m r (n - suc i) (omega (arith, more)) ∙ line_refused s _ (l + i) a.reads.first (stepped a e s m r (n - suc i))

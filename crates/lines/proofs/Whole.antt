@@ -1,6 +1,6 @@
 -- A solid's lines together: head, planes, nodes, end; and what may follow.
---     rows_no_node, rows_end                                the rows below a head
---     head_missing, head_refused, head_read                 the head
+--     rows_no_node, rows_no_end, rows_end                   the rows below a head
+--     head_read, head_refused                               the head
 --     HeadTaken, head_taken                                 counts within the limits and the rows lent
 --     finish_read, finish_more                              what follows the end
 use mathlib.Core.Path.{◌≡◌, refl, ap, ◌∙◌}
@@ -8,6 +8,7 @@ use mathlib.Core.Bool.{Bool, true, false}
 use mathlib.Core.List.{List, [], ◌∷◌}
 use mathlib.Core.Logic.{◌≢◌}
 use mathlib.Core.Option.{Option, none}
+use Rattle.std.specs.Prelude.{⊤, Result, Ok, Err}
 use Prim.Native.Nat.{ℕ, suc, ◌+◌, ◌≤◌}
 use native.Mathlib.Omega.{arith}
 use lib.Dec.{leb}
@@ -21,19 +22,16 @@ use Rattle.scope.specs.Solids.{Tables, tables}
 use Rattle.scope.specs.Text.{Frame, bad, other, operation, head, plane, node_row, end, frames}
 use Rattle.scope.specs.Judging.{Rooms, State, fresh, busy, go, done, all_used, one_tree, root_ok, in_rooms, head_by, judge_head, step, Reading, read, refused, read_solid, accepted, refusal, finish}
 use Rattle.frames.specs.Follows.{head_refuses, end_refuses}
-use Rattle.frames.specs.Promises.{Refuses, IsHead, Follows, bad_follows, more_follows}
-use Rattle.tables.specs.declared.Judged as Judged
+use Rattle.frames.specs.Promises.{Follows, bad_follows, more_follows}
 use Rattle.tables.specs.declared.Solid.{Solid}
 use Rattle.tables.specs.Rows.{last_before}
 use Rattle.tables.proofs.Stacks.{one_deep, used_marks}
 use Rattle.tables.specs.Work.{all_marked}
 use Rattle.tables.specs.Promises.{judged, end_judged}
-use Rattle.lines.specs.declared.LinesRead as answer
-use Rattle.lines.specs.Lines.{EndLine, end_taken, no_end, bad_end}
-use Rattle.lines.specs.Reading.{PlanesSoFar, NodesOver, NodesTold, RowsTold}
+use Rattle.frames.specs.declared.Cursor.{Cursor}
+use Rattle.lines.specs.Lines.{HeadLine, no_head, bad_head, EndLine, end_taken, no_end, bad_end}
+use Rattle.lines.specs.Reading.{PlanesSoFar, NodesOver, NodesTold, RowsRead, RowsTold}
 use Rattle.lines.proofs.Lines.{line_goes, line_ends, line_refused, as_step, head_step, end_step}
-
--- ---- the end
 
 -- ---- the rows below a head
 
@@ -42,7 +40,7 @@ module _ (l : ℕ) (s : Solid) {t : List ℕ} {from : ℕ} {xs : List ℤ} (few 
   planes_left : (a : Rooms) → read_solid a (busy s.planes s.nodes s.root none [] [] []) l (frames (drop from t)) ≡ read_solid a (busy 0 s.nodes s.root (last_before xs s.planes) p.planes [] []) (l + s.planes) (frames (drop at t))
   planes_left a = p.goes a s.nodes s.root 0 (omega arith)
 
-  pub rows_no_node : (ns : List ℕ) (w : List ℤ) {k j : ℕ} → NodesTold t at (l + s.planes) s.planes s.nodes ns w (answer.TheVariants.Refused k j) → RowsTold t from l s xs ns (answer.TheVariants.Refused k j)
+  pub rows_no_node : (ns : List ℕ) (w : List ℤ) {k j : ℕ} → NodesTold t at (l + s.planes) s.planes s.nodes ns w (Err (k, j)) → RowsTold t from l s xs ns (Err (k, j))
   rows_no_node ns w h a = planes_left a ∙ h p.planes p.count a s.root _
 
   module _ {ns : List ℕ} {w : List ℤ} {next d : ℕ} (q : NodesOver p.planes t at (l + s.planes) s.nodes ns w s.nodes next d) where
@@ -50,13 +48,13 @@ module _ (l : ℕ) (s : Solid) {t : List ℕ} {from : ℕ} {xs : List ℤ} (few 
     nodes_left a = planes_left a ∙ q.goes a s.root 0 _ (omega arith)
 
     -- the end, judged as the code has judged it
-    ending : {j : Judged.Judged} → end_judged (all_marked w s.planes) (leb d 1) ≡ j → (a : Rooms) (o : Option Plane) → step a (busy 0 0 s.root o p.planes q.entries q.trees) end ≡ as_step j (done (tables p.planes q.entries s.root))
+    ending : {j : Result ⊤ ℕ} → end_judged (all_marked w s.planes) (leb d 1) ≡ j → (a : Rooms) (o : Option Plane) → step a (busy 0 0 s.root o p.planes q.entries q.trees) end ≡ as_step j (done (tables p.planes q.entries s.root))
     unfolding step
     ending e a o =
         end_step (all_used (length p.planes) q.entries) (one_tree q.trees) (tables p.planes q.entries s.root)
         ∙ ap (λ j. as_step j (done (tables p.planes q.entries s.root))) ((λ u. end_judged ((ap (λ j. all_used j q.entries) p.count ∙ used_marks w q.entries s.planes few q.marks) u) (one_deep w d q.trees q.stands u)) ∙ e)
 
-    pub rows_end : {r : answer.LinesRead} → EndLine t next s.planes w d (l + s.planes + s.nodes) r → RowsTold t from l s xs ns r
+    pub rows_end : {c : Cursor} → EndLine t next s.planes w d (Ok c) → RowsRead t from l s xs ns c.at (l + s.planes + s.nodes + 1)
     rows_end (end_taken {c = c} h e) = record {
       planes = p.planes;
       entries = q.entries;
@@ -65,35 +63,36 @@ module _ (l : ℕ) (s : Solid) {t : List ℕ} {from : ℕ} {xs : List ℤ} (few 
       plane_table = p.table;
       node_table = q.table;
       inside = h.inside;
+      line = refl;
       reading = λ a. nodes_left a ∙ line_ends a _ (l + s.planes + s.nodes) h.first (ending e a _) ∙ ap (λ j. read (tables p.planes q.entries s.root) j (frames (drop c.at t))) line;
     }
       where
         line : suc (l + s.planes + s.nodes) ≡ l + s.planes + s.nodes + 1
         line = omega arith
-    rows_end (no_end h) = λ a. nodes_left a ∙ end_refuses a (l + s.planes + s.nodes) (frames (drop next t)) s.root (last_before xs s.planes) p.planes q.entries q.trees h
-    rows_end (bad_end h e) = λ a. nodes_left a ∙ line_refused a _ (l + s.planes + s.nodes) h.first (ending e a _)
+
+    pub rows_no_end : {k : ℕ} → EndLine t next s.planes w d (Err k) → RowsTold t from l s xs ns (Err (k, l + s.planes + s.nodes))
+    rows_no_end (no_end h) = λ a. nodes_left a ∙ end_refuses a (l + s.planes + s.nodes) (frames (drop next t)) s.root (last_before xs s.planes) p.planes q.entries q.trees h
+    rows_no_end (bad_end h e) = λ a. nodes_left a ∙ line_refused a _ (l + s.planes + s.nodes) h.first (ending e a _)
 
 -- ---- the head
-
-pub head_missing : (a : Rooms) (l : ℕ) {fs : List Frame} {k : ℕ} → Refuses IsHead fs k → read_solid a fresh l fs ≡ refused k l
-head_missing a l {fs = fs} h = head_refuses a l fs h
 
 -- the head, judged as the code has judged it
 module _ (a : Rooms) (l n m r : ℕ) {fs gs : List Frame} (e : fs ≡ head n m r ∷ gs) where
   abbrev below : State
   below = busy n m r none [] [] []
 
-  opened : {j : Judged.Judged} → judged (judge_head a n m r) ≡ j → step a fresh (head n m r) ≡ as_step j (go below)
+  opened : {j : Result ⊤ ℕ} → judged (judge_head a n m r) ≡ j → step a fresh (head n m r) ≡ as_step j (go below)
   unfolding step judge_head
   opened h = head_step (leb n most_planes and leb m most_nodes) (root_ok m r) (in_rooms a n m) below ∙ ap (λ j. as_step j (go below)) h
 
-  pub head_refused : {k : ℕ} → judged (judge_head a n m r) ≡ Judged.TheVariants.Refused k → read_solid a fresh l fs ≡ refused k l
-  head_refused h = line_refused a fresh l e (opened h)
-
-  pub head_read : judged (judge_head a n m r) ≡ Judged.TheVariants.Fine → read_solid a fresh l fs ≡ read_solid a below (suc l) gs
+  pub head_read : judged (judge_head a n m r) ≡ Ok tt → read_solid a fresh l fs ≡ read_solid a below (suc l) gs
   head_read h = line_goes a fresh l e (opened h)
 
-head_small : (x y z : Bool) (c : State) → judged (head_by x y z c) ≡ Judged.TheVariants.Fine → (x ≡ true) × (z ≡ true)
+pub head_refused : (a : Rooms) (l : ℕ) {t : List ℕ} {at k : ℕ} → HeadLine t at a (Err k) → read_solid a fresh l (frames (drop at t)) ≡ refused k l
+head_refused a l (no_head h) = head_refuses a l _ h
+head_refused a l (bad_head {n = n} {m = m} {r = r} h e) = line_refused a fresh l h.first (opened a l n m r h.first e)
+
+head_small : (x y z : Bool) (c : State) → judged (head_by x y z c) ≡ Ok tt → (x ≡ true) × (z ≡ true)
 head_small false y z c e = differ (cc e)
 head_small true false z c e = differ (cc e)
 head_small true true false c e = differ (cc e)
@@ -105,7 +104,7 @@ pub record HeadTaken (a : Rooms) (n m : ℕ) : Type 0 where
   pub plane_room : n ≤ a.plane_rows
   pub node_room : m ≤ a.node_rows
 
-pub head_taken : (a : Rooms) (n m r : ℕ) → judged (judge_head a n m r) ≡ Judged.TheVariants.Fine → HeadTaken a n m
+pub head_taken : (a : Rooms) (n m r : ℕ) → judged (judge_head a n m r) ≡ Ok tt → HeadTaken a n m
 unfolding judge_head
 head_taken a n m r e =
     let h = head_small (leb n most_planes and leb m most_nodes) (root_ok m r) (in_rooms a n m) (busy n m r none [] [] []) e in

@@ -5,7 +5,7 @@
 --     PlanesIn, NodesIn, RowsIn   what the functions are given
 --     RowsRead, WholeSolid        the rows below a head were read, and a whole solid was
 --     PlanesTold, NodesTold, RowsTold, SolidTold   the answers, case by case
-use Rattle.std.specs.Prelude.{◌≡◌, List, [], ℕ, ◌+◌, ◌*◌, ◌/◌, ◌≤◌, ◌<◌, ℤ, pos, length, drop, replicate}
+use Rattle.std.specs.Prelude.{◌≡◌, List, [], ℕ, ◌+◌, ◌*◌, ◌/◌, ◌≤◌, ◌<◌, ℤ, pos, length, drop, replicate, Result, Ok, Err}
 use Rattle.std.proofs.Math.Option.{Option, none}
 use Rattle.scope.specs.Planes.{Plane}
 use Rattle.scope.specs.Solids.{Entry, Tables, tables}
@@ -16,8 +16,8 @@ use Rattle.theory.specs.Text.Counts.{sizes}
 use Rattle.tables.specs.Rows.{last_before}
 use Rattle.tables.specs.Work.{stack, marked}
 use Rattle.tables.specs.declared.Solid.{Solid}
-use Rattle.lines.specs.declared.LinesRead as LinesRead
-use Rattle.lines.specs.declared.SolidRead as SolidRead
+use Rattle.lines.specs.declared.Place.{Place}
+use Rattle.lines.specs.declared.SolidRead.{SolidRead}
 
 -- ---- tables
 
@@ -51,9 +51,9 @@ pub record PlanesSoFar (t : List ℕ) (from l n : ℕ) (xs : List ℤ) (i at : �
   pub inside : at ≤ length t
   pub goes : (s : Rooms) (m r rest : ℕ) → rest + i ≡ n → read_solid s (busy n m r none [] [] []) l (frames (drop from t)) ≡ read_solid s (busy rest m r (last_before xs i) planes [] []) (l + i) (frames (drop at t))
 
-abbrev pub PlanesTold : List ℕ → ℕ → ℕ → ℕ → List ℤ → LinesRead.LinesRead → Type 0
-PlanesTold t from l n xs (LinesRead.TheVariants.At c d) = PlanesSoFar t from l n xs n c.at
-PlanesTold t from l n xs (LinesRead.TheVariants.Refused k j) = (s : Rooms) (m r : ℕ) → read_solid s (busy n m r none [] [] []) l (frames (drop from t)) ≡ refused k j
+abbrev pub PlanesTold : List ℕ → ℕ → ℕ → ℕ → List ℤ → Result Place (ℕ × ℕ) → Type 0
+PlanesTold t from l n xs (Ok p) = PlanesSoFar t from l n xs n p.cursor.at × (p.line ≡ l + n)
+PlanesTold t from l n xs (Err (k, j)) = (s : Rooms) (m r : ℕ) → read_solid s (busy n m r none [] [] []) l (frames (drop from t)) ≡ refused k j
 
 -- ---- nodes
 
@@ -78,9 +78,9 @@ pub record NodesOver (ps : List Plane) (t : List ℕ) (from l m : ℕ) (ns : Lis
   pub marks : (k : ℕ) → k < 64 → marked w k ≡ uses k entries
   pub goes : (s : Rooms) (r rest : ℕ) (q : Option Plane) → rest + i ≡ m → read_solid s (busy 0 m r q ps [] []) l (frames (drop from t)) ≡ read_solid s (busy 0 rest r q ps entries trees) (l + i) (frames (drop at t))
 
-abbrev pub NodesTold : List ℕ → ℕ → ℕ → ℕ → ℕ → List ℕ → List ℤ → LinesRead.LinesRead → Type 0
-NodesTold t from l n m ns w (LinesRead.TheVariants.At c d) = (c.at ≤ length t) × ((ps : List Plane) → length ps ≡ n → NodesOver ps t from l m ns w m c.at d)
-NodesTold t from l n m ns w (LinesRead.TheVariants.Refused k j) = (ps : List Plane) → length ps ≡ n → (s : Rooms) (r : ℕ) (q : Option Plane) → read_solid s (busy 0 m r q ps [] []) l (frames (drop from t)) ≡ refused k j
+abbrev pub NodesTold : List ℕ → ℕ → ℕ → ℕ → ℕ → List ℕ → List ℤ → Result (Place × ℕ) (ℕ × ℕ) → Type 0
+NodesTold t from l n m ns w (Ok (p, d)) = (p.cursor.at ≤ length t) × (p.line ≡ l + m) × ((ps : List Plane) → length ps ≡ n → NodesOver ps t from l m ns w m p.cursor.at d)
+NodesTold t from l n m ns w (Err (k, j)) = (ps : List Plane) → length ps ≡ n → (s : Rooms) (r : ℕ) (q : Option Plane) → read_solid s (busy 0 m r q ps [] []) l (frames (drop from t)) ≡ refused k j
 
 -- ---- a solid
 
@@ -96,7 +96,7 @@ pub record RowsIn (t : List ℕ) (from l : ℕ) (s : Solid) (xs : List ℤ) (ns 
   pub blank : Blank xs ns w
 
 -- the rows below a head, and the end
-pub record RowsRead (t : List ℕ) (from l : ℕ) (s : Solid) (xs : List ℤ) (ns : List ℕ) (next : ℕ) : Type 0 where
+pub record RowsRead (t : List ℕ) (from l : ℕ) (s : Solid) (xs : List ℤ) (ns : List ℕ) (next j : ℕ) : Type 0 where
   pub planes : List Plane
   pub entries : List Entry
   pub plane_count : length planes ≡ s.planes
@@ -104,11 +104,12 @@ pub record RowsRead (t : List ℕ) (from l : ℕ) (s : Solid) (xs : List ℤ) (n
   pub plane_table : HoldsPlanes xs planes
   pub node_table : HoldsNodes ns entries
   pub inside : next ≤ length t
-  pub reading : (a : Rooms) → read_solid a (busy s.planes s.nodes s.root none [] [] []) l (frames (drop from t)) ≡ read (tables planes entries s.root) (l + s.planes + s.nodes + 1) (frames (drop next t))
+  pub line : j ≡ l + s.planes + s.nodes + 1
+  pub reading : (a : Rooms) → read_solid a (busy s.planes s.nodes s.root none [] [] []) l (frames (drop from t)) ≡ read (tables planes entries s.root) j (frames (drop next t))
 
-abbrev pub RowsTold : List ℕ → ℕ → ℕ → Solid → List ℤ → List ℕ → LinesRead.LinesRead → Type 0
-RowsTold t from l s xs ns (LinesRead.TheVariants.At c d) = RowsRead t from l s xs ns c.at
-RowsTold t from l s xs ns (LinesRead.TheVariants.Refused k j) = (a : Rooms) → read_solid a (busy s.planes s.nodes s.root none [] [] []) l (frames (drop from t)) ≡ refused k j
+abbrev pub RowsTold : List ℕ → ℕ → ℕ → Solid → List ℤ → List ℕ → Result Place (ℕ × ℕ) → Type 0
+RowsTold t from l s xs ns (Ok p) = RowsRead t from l s xs ns p.cursor.at p.line
+RowsTold t from l s xs ns (Err (k, j)) = (a : Rooms) → read_solid a (busy s.planes s.nodes s.root none [] [] []) l (frames (drop from t)) ≡ refused k j
 
 -- the rows lent for planes and nodes
 abbrev pub rooms : List ℤ → List ℕ → Rooms
@@ -127,11 +128,6 @@ pub record WholeSolid (t : List ℕ) (from l : ℕ) (a : Rooms) (s : Solid) (xs 
   pub near : j ≤ l + 1066
   pub reading : read_solid a fresh l (frames (drop from t)) ≡ read is j (frames (drop next t))
 
--- a solid whose lines were read, and the line that follows it
-abbrev pub whole_of : LinesRead.LinesRead → Solid → ℕ → SolidRead.SolidRead
-whole_of (LinesRead.TheVariants.Refused k j) s l = SolidRead.TheVariants.Refused k j
-whole_of (LinesRead.TheVariants.At c d) s l = SolidRead.TheVariants.Read s c l
-
-abbrev pub SolidTold : List ℕ → ℕ → ℕ → Rooms → List ℤ → List ℕ → SolidRead.SolidRead → Type 0
-SolidTold t from l a xs ns (SolidRead.TheVariants.Read s c j) = WholeSolid t from l a s xs ns c.at j
-SolidTold t from l a xs ns (SolidRead.TheVariants.Refused k j) = read_solid a fresh l (frames (drop from t)) ≡ refused k j
+abbrev pub SolidTold : List ℕ → ℕ → ℕ → Rooms → List ℤ → List ℕ → Result SolidRead (ℕ × ℕ) → Type 0
+SolidTold t from l a xs ns (Ok r) = WholeSolid t from l a r.solid xs ns r.next.cursor.at r.next.line
+SolidTold t from l a xs ns (Err (k, j)) = read_solid a fresh l (frames (drop from t)) ≡ refused k j

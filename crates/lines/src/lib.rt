@@ -9,17 +9,16 @@ pub use reading::read_solid;
 use tables::Solid;
 pub use writing::put_solid;
 
-// The cursor after the lines that were read, and how many trees the nodes read are, 0 after planes and after the end; or the number and the
-// line that refuse the text.
+// Where a line begins in a text, and the line's number.
 #[derive(Clone, Copy)]
-pub enum LinesRead {
-    At(Cursor, usize),
-    Refused(u8, usize),
+pub struct Place {
+    pub cursor: Cursor,
+    pub line: usize,
 }
 
-// A solid, the cursor after it and the line that follows it; or the number and the line that refuse the text.
+// A solid that was read, and the place after its end.
 #[derive(Clone, Copy)]
-pub enum SolidRead {
-    Read(Solid, Cursor, usize),
-    Refused(u8, usize),
+pub struct SolidRead {
+    pub solid: Solid,
+    pub next: Place,
 }

@@ -5,9 +5,11 @@ ghost use Rattle.scope.specs.Text.{line, bytes, node_row, text as text_of};
 ghost use Rattle.theory.specs.Text.Frames.{Fits};
 ghost use Rattle.frames.specs.Promises.{Wrote};
 ghost use Rattle.tables.specs.Rows.{entry_at};
+ghost use Rattle.tables.specs.Promises.{counts};
 ghost use Rattle.lines.specs.Writing.{PlanesFit, NodesFit, plane_lines, node_lines, Writes, tables_in};
 
-use tables::{Solid, row};
+use frames::Head;
+use tables::{LentSolid, row};
 
 // The lines of n planes from `at` on: the place after them.
 pub fn put_planes(text: &mut [u8], at: usize, planes: &[i64], n: usize) -> usize
@@ -42,12 +44,17 @@ pub fn put_nodes(text: &mut [u8], at: usize, nodes: &[u16], m: usize) -> usize
 }
 
 // The text of a solid.
-pub fn put_solid(text: &mut [u8], planes: &[i64], nodes: &[u16], s: Solid)
-    requires { Writes planes.now nodes.now s text.old }
-    ensures { text.new ≡ sets text.old 0 (text_of (tables_in planes.now nodes.now s)) }
+pub fn put_solid(text: &mut [u8], s: &LentSolid)
+    requires { Writes s.now.planes.now s.now.nodes.now (counts s.now.planes.now s.now.nodes.now s.now.root) text.old }
+    ensures { text.new ≡ sets text.old 0 (text_of (tables_in s.now.planes.now s.now.nodes.now (counts s.now.planes.now s.now.nodes.now s.now.root))) }
 {
-    let at = frames::put_head(text, 0, s.planes, s.nodes, s.root);
-    let next = put_planes(text, at, planes, s.planes);
-    let end = put_nodes(text, next, nodes, s.nodes);
+    let head = Head {
+        planes: s.planes.len() / 4,
+        nodes: s.nodes.len() / 3,
+        root: s.root,
+    };
+    let at = frames::put_head(text, 0, head);
+    let next = put_planes(text, at, s.planes, head.planes);
+    let end = put_nodes(text, next, s.nodes, head.nodes);
     frames::put_end(text, end);
 }

@@ -9,12 +9,13 @@ use mathlib.Core.Bool.{Bool, true, false}
 use mathlib.Core.List.{List, [], ◌∷◌, ◌++◌}
 use mathlib.Core.Logic.{⊎_elim}
 use mathlib.Core.Option.{some}
-use Prim.Native.Nat.{ℕ, zero, suc, ◌+◌, ◌-◌, ◌*◌, ◌/◌, ◌≤◌, ◌<◌}
+use Prim.Native.Nat.{ℕ, zero, suc, ◌+◌, ◌*◌, ◌/◌, ◌≤◌, ◌<◌}
 use native.Mathlib.Omega.{arith}
 use lib.Dec.{T}
+use borrow.Author.Count.{below_more}
 use lib.IntN.{ℤ}
 use lib.ListN.{length, get_or, get_elem?, set, take, drop, length-append, length-set}
-use lib.Seq.{sets, sets-eq, take_at, length-take-le, get_or-set_same, get_or-set_other}
+use lib.Seq.{sets, sets-eq, length-sets, take_at, length-take-le, get_or-set_same, get_or-set_other}
 use Rattle.whole.specs.Tests.{differ}
 use Rattle.whole.specs.Members.{◌∈◌, here, there, in_left, in_right, in_either, elem_in, elem_small, elem_at}
 use Rattle.scope.specs.Planes.{Plane, before}
@@ -22,16 +23,18 @@ use Rattle.scope.specs.Solids.{place, ascending}
 use Rattle.scope.specs.Answers.{flat_planes}
 use Rattle.theory.specs.Planes.Order.{Before, before_trans, Ordered, first, level, last, ordered}
 use Rattle.theory.specs.Planes.Lists.{Ascending, empty, next, ascending_one, ascending_law, ascending_same, place_at, place_of}
-use Rattle.theory.specs.Text.Filled.{planes_count, planes_end}
+use Rattle.theory.specs.Text.Filled.{planes_end}
 use Rattle.planes.specs.Values.{plane, order_by}
 use Rattle.planes.specs.Promises.{OrderTold}
 use Rattle.planes.specs.declared.Plane as code
-use Rattle.planes.specs.declared.Order.{Order}
+use Rattle.std.specs.declared.cmp.Ordering.{Ordering}
 use Rattle.tables.specs.Rows.{plane_at, planes_to}
 use Rattle.tables.proofs.Flats.{flat_plane}
-use Rattle.lists.specs.Lists.{HoldsList, Joined}
+use Rattle.lists.specs.declared.JoinedList.{JoinedList}
+use Rattle.lists.specs.declared.Taken.{Taken}
+use Rattle.lists.specs.Lists.{HoldsList, JoinTold}
 use Rattle.lists.specs.Steps.{Half, Joining, FirstNext, BothNext, Sooner, Rising, TakeIn, TakeTold, rows_of, rows_of_both}
-use Rattle.lists.proofs.Rows.{four, planes_back}
+use Rattle.lists.proofs.Rows.{four, planes_many, planes_back}
 
 -- ---- the end of a list
 
@@ -61,13 +64,6 @@ module _ (ps : List Plane) (q : Plane) (a : Ascending (ps ++ (q ∷ []))) where
 
 -- ---- one of the two lists
 
-up_to : {C : Type 0} (x i : ℕ) → x < i + 1 → (x < i → C) → (x ≡ i → C) → C
-up_to {C} x i b f g = go (i - x) refl
-  where
-    go : (d : ℕ) → i - x ≡ d → C
-    go zero z = g (omega arith)
-    go (suc d) z = f (omega arith)
-
 module _ {row : ℕ → Plane} {n i : ℕ} {ps : List Plane} {u v : ℕ → ℕ} (q : Plane) (a : Ascending (ps ++ (q ∷ []))) (same : (x : ℕ) → x < i → v x ≡ u x) (h : Half row n i ps u) where
   kept_number : (x : ℕ) → x < i → v x ≡ place (ps ++ (q ∷ [])) (row x)
   kept_number x l = same x l ∙ h.numbers x l ∙ sym (place_left ps q a (row x) (h.taken x l))
@@ -85,9 +81,9 @@ module _ {row : ℕ → Plane} {n i : ℕ} {ps : List Plane} {u v : ℕ → ℕ}
   goes : i < n → row i ≡ q → ((x : ℕ) → x + 1 < n → Before (row x) (row (x + 1))) → v i ≡ length ps → Half row n (i + 1) (ps ++ (q ∷ [])) v
   goes l e rises k = record {
     inside = omega arith;
-    taken = λ x b. up_to x i b (λ c. in_left (q ∷ []) (h.taken x c)) (λ d. in_right ps (here (ap row d ∙ e)));
+    taken = below_more (λ x. row x ∈ (ps ++ (q ∷ []))) i (λ x c. in_left (q ∷ []) (h.taken x c)) (in_right ps (here e));
     later = λ b p m. in_end ps m (λ m. before_trans (h.later l p m) (rises i b)) (λ d. subst (λ t. Before t (row (i + 1))) (e ∙ sym d) (rises i b));
-    numbers = λ x b. up_to x i b (kept_number x) (λ d. ap v d ∙ k ∙ sym (ap (place (ps ++ (q ∷ []))) (ap row d ∙ e) ∙ place_last ps q a));
+    numbers = below_more (λ x. v x ≡ place (ps ++ (q ∷ [])) (row x)) i kept_number (k ∙ sym (ap (place (ps ++ (q ∷ []))) e ∙ place_last ps q a));
   }
 
 -- ---- rows of a table
@@ -95,7 +91,7 @@ module _ {row : ℕ → Plane} {n i : ℕ} {ps : List Plane} {u v : ℕ → ℕ}
 row_in : (xs : List ℤ) (n i : ℕ) → i < n → plane_at xs i ∈ planes_to xs n
 unfolding planes_to
 row_in xs zero i l = absurd (omega arith)
-row_in xs (suc n) i l = up_to i n (omega arith) (λ b. in_left (plane_at xs n ∷ []) (row_in xs n i b)) (λ e. in_right (planes_to xs n) (here (ap (plane_at xs) e)))
+row_in xs (suc n) i l = below_more (λ x. plane_at xs x ∈ (planes_to xs n ++ (plane_at xs n ∷ []))) n (λ x b. in_left (plane_at xs n ∷ []) (row_in xs n x b)) (in_right (planes_to xs n) (here refl)) i (omega arith)
 
 -- each row in a list, each plane of the rows in it
 rows_in : (xs : List ℤ) (n : ℕ) (ps : List Plane) → ((x : ℕ) → x < n → plane_at xs x ∈ ps) → (p : Plane) → p ∈ planes_to xs n → p ∈ ps
@@ -105,31 +101,36 @@ rows_in xs (suc n) ps f p m = in_end (planes_to xs n) m (rows_in xs n ps (λ x l
 
 -- ---- one plane more
 
-module _ {a b joined : List ℤ} {numbers : List ℕ} {i j k : ℕ} (w : TakeIn a b joined numbers i j k) (joined' : List ℤ) (q : Plane) (stored : joined' ≡ sets joined (4 * k) (four q)) where
+module _ {a b : List ℤ} {l : JoinedList} {t : Taken} (w : TakeIn a b l t) (joined : List ℤ) (q : Plane) (stored : joined ≡ sets l.planes (4 * l.count) (four q)) where
   grown : List Plane
   grown = w.so_far.list ++ (q ∷ [])
 
-  room : 4 * k + 4 ≤ length joined
-  room = omega arith
+  room : 4 * l.count + 4 ≤ length l.planes
+  room = omega (arith, w.so_far.long, w.so_far.few)
 
-  grown_table : take (4 * (k + 1)) joined' ≡ flat_planes grown
+  grown_table : take (4 * (l.count + 1)) joined ≡ flat_planes grown
   unfolding grown
   grown_table =
-      ap (take (4 * (k + 1))) (stored ∙ sets-eq (four q) joined (4 * k) room)
-      ∙ take_at (take (4 * k) joined ++ four q) (drop (4 * k + 4) joined) (4 * (k + 1)) (length-append (take (4 * k) joined) (four q) ∙ omega (arith, length-take-le (4 * k) joined (omega (arith, room))))
-      ∙ ap (λ l. l ++ four q) w.so_far.table ∙ sym (planes_end w.so_far.list q)
+      ap (take (4 * (l.count + 1))) (stored ∙ sets-eq (four q) l.planes (4 * l.count) room)
+      ∙ take_at (take (4 * l.count) l.planes ++ four q) (drop (4 * l.count + 4) l.planes) (4 * (l.count + 1)) (length-append (take (4 * l.count) l.planes) (four q) ∙ omega (arith, length-take-le (4 * l.count) l.planes (omega (arith, room))))
+      ∙ ap (λ x. x ++ four q) w.so_far.table ∙ sym (planes_end w.so_far.list q)
 
-  grown_told : (i' j' : ℕ) (numbers' : List ℕ) → i + j < i' + j' → Ascending grown → q ∈ rows_of_both a b
-      → Half (plane_at a) (length a / 4) i' grown (λ x. get_or numbers' x 0) → Half (plane_at b) (length b / 4) j' grown (λ x. get_or numbers' (64 + x) 0) → TakeTold a b joined' numbers' i j k (record { a = i'; b = j' })
+  abbrev more_of : List ℕ → JoinedList
+  more_of numbers = record { planes = joined; numbers = numbers; count = l.count + 1 }
+
+  grown_told : (i j : ℕ) (numbers : List ℕ) → length numbers ≡ length l.numbers → t.a + t.b < i + j → Ascending grown → q ∈ rows_of_both a b
+      → Half (plane_at a) (length a / 4) i grown (λ x. get_or numbers x 0) → Half (plane_at b) (length b / 4) j grown (λ x. get_or numbers (64 + x) 0) → TakeTold a b (more_of numbers) t (record { a = i; b = j })
   unfolding grown
-  grown_told i' j' numbers' on o m f g = record {
+  grown_told i j numbers same on o m f g = record {
     so_far = record {
+      long = ap length stored ∙ length-sets l.planes (4 * l.count) (four q) ∙ w.so_far.long;
+      wide = same ∙ w.so_far.wide;
       list = grown;
-      count = length-append w.so_far.list (q ∷ []) ∙ ap (λ l. l + 1) w.so_far.count;
-      few = omega arith;
+      count = length-append w.so_far.list (q ∷ []) ∙ ap (λ n. n + 1) w.so_far.count;
+      few = omega (arith, w.so_far.few);
       table = grown_table;
       order = o;
-      from = λ p n. in_end w.so_far.list n (w.so_far.from p) (λ e. subst (λ t. t ∈ rows_of_both a b) (sym e) m);
+      from = λ p n. in_end w.so_far.list n (w.so_far.from p) (λ e. subst (λ x. x ∈ rows_of_both a b) (sym e) m);
       first = f;
       second = g;
     };
@@ -140,53 +141,56 @@ module _ {a b joined : List ℤ} {numbers : List ℕ} {i j k : ℕ} (w : TakeIn 
   unfolding grown
   grown_order f = ascending_end q w.so_far.order f
 
-  -- row i of A is taken
-  pub first_taken : q ≡ plane_at a i → FirstNext a i b j → TakeTold a b joined' (set numbers i k) i j k (record { a = i + 1; b = j })
+  first_in : q ≡ plane_at a t.a → t.a < length a / 4 → q ∈ rows_of_both a b
+  first_in e h = in_left (rows_of b) (subst (λ x. x ∈ rows_of a) (sym e) (row_in a (length a / 4) t.a h))
+
+  -- A's row is taken
+  pub first_taken : q ≡ plane_at a t.a → FirstNext a t.a b t.b → TakeTold a b (more_of (set l.numbers t.a l.count)) t (record { a = t.a + 1; b = t.b })
   unfolding grown
   first_taken e f =
       let o = grown_order (λ p m. subst (Before p) (sym e) (w.so_far.first.later f.here p m)) in
-      grown_told (i + 1) j (set numbers i k) (omega arith) o (in_left (rows_of b) (subst (λ t. t ∈ rows_of a) (sym e) (row_in a (length a / 4) i f.here)))
-      (goes q o (λ x l. get_or-set_other numbers i x k 0 (λ d. omega arith)) w.so_far.first f.here (sym e) w.first_rising (get_or-set_same numbers i k 0 (omega arith) ∙ sym w.so_far.count))
-      (stays q o (λ x l. get_or-set_other numbers i (64 + x) k 0 (λ d. omega arith)) w.so_far.second (λ l. subst (λ t. Before t (plane_at b j)) (sym e) (f.sooner l)))
+      grown_told (t.a + 1) t.b (set l.numbers t.a l.count) (simp length-set) (omega arith) o (first_in e f.here)
+      (goes q o (λ x h. get_or-set_other l.numbers t.a x l.count 0 (λ d. omega arith)) w.so_far.first f.here (sym e) w.first_rising (get_or-set_same l.numbers t.a l.count 0 (omega arith) ∙ sym w.so_far.count))
+      (stays q o (λ x h. get_or-set_other l.numbers t.a (64 + x) l.count 0 (λ d. omega arith)) w.so_far.second (λ h. subst (λ x. Before x (plane_at b t.b)) (sym e) (f.sooner h)))
 
-  -- row j of B is taken
-  pub second_taken : q ≡ plane_at b j → FirstNext b j a i → TakeTold a b joined' (set numbers (64 + j) k) i j k (record { a = i; b = j + 1 })
+  -- B's row is taken
+  pub second_taken : q ≡ plane_at b t.b → FirstNext b t.b a t.a → TakeTold a b (more_of (set l.numbers (64 + t.b) l.count)) t (record { a = t.a; b = t.b + 1 })
   unfolding grown
   second_taken e f =
       let o = grown_order (λ p m. subst (Before p) (sym e) (w.so_far.second.later f.here p m)) in
-      grown_told i (j + 1) (set numbers (64 + j) k) (omega arith) o (in_right (rows_of a) (subst (λ t. t ∈ rows_of b) (sym e) (row_in b (length b / 4) j f.here)))
-      (stays q o (λ x l. get_or-set_other numbers (64 + j) x k 0 (λ d. omega arith)) w.so_far.first (λ l. subst (λ t. Before t (plane_at a i)) (sym e) (f.sooner l)))
-      (goes q o (λ x l. get_or-set_other numbers (64 + j) (64 + x) k 0 (λ d. omega arith)) w.so_far.second f.here (sym e) w.second_rising (get_or-set_same numbers (64 + j) k 0 (omega arith) ∙ sym w.so_far.count))
+      grown_told t.a (t.b + 1) (set l.numbers (64 + t.b) l.count) (simp length-set) (omega arith) o (in_right (rows_of a) (subst (λ x. x ∈ rows_of b) (sym e) (row_in b (length b / 4) t.b f.here)))
+      (stays q o (λ x h. get_or-set_other l.numbers (64 + t.b) x l.count 0 (λ d. omega arith)) w.so_far.first (λ h. subst (λ x. Before x (plane_at a t.a)) (sym e) (f.sooner h)))
+      (goes q o (λ x h. get_or-set_other l.numbers (64 + t.b) (64 + x) l.count 0 (λ d. omega arith)) w.so_far.second f.here (sym e) w.second_rising (get_or-set_same l.numbers (64 + t.b) l.count 0 (omega arith) ∙ sym w.so_far.count))
 
   -- both are taken, as one plane
-  pub both_taken : q ≡ plane_at a i → BothNext a i b j → TakeTold a b joined' (set (set numbers i k) (64 + j) k) i j k (record { a = i + 1; b = j + 1 })
+  pub both_taken : q ≡ plane_at a t.a → BothNext a t.a b t.b → TakeTold a b (more_of (set (set l.numbers t.a l.count) (64 + t.b) l.count)) t (record { a = t.a + 1; b = t.b + 1 })
   unfolding grown
   both_taken e f =
       let o = grown_order (λ p m. subst (Before p) (sym e) (w.so_far.first.later f.here p m)) in
-      let n = set numbers i k in
-      grown_told (i + 1) (j + 1) (set n (64 + j) k) (omega arith) o (in_left (rows_of b) (subst (λ t. t ∈ rows_of a) (sym e) (row_in a (length a / 4) i f.here)))
-      (goes q o (λ x l. get_or-set_other n (64 + j) x k 0 (λ d. omega arith) ∙ get_or-set_other numbers i x k 0 (λ d. omega arith)) w.so_far.first f.here (sym e) w.first_rising
-      (get_or-set_other n (64 + j) i k 0 (λ d. omega arith) ∙ get_or-set_same numbers i k 0 (omega arith) ∙ sym w.so_far.count))
-      (goes q o (λ x l. get_or-set_other n (64 + j) (64 + x) k 0 (λ d. omega arith) ∙ get_or-set_other numbers i (64 + x) k 0 (λ d. omega arith)) w.so_far.second f.there (sym (e ∙ f.same)) w.second_rising
-      (get_or-set_same n (64 + j) k 0 (simp length-set (omega arith)) ∙ sym w.so_far.count))
+      let n = set l.numbers t.a l.count in
+      grown_told (t.a + 1) (t.b + 1) (set n (64 + t.b) l.count) (simp length-set) (omega arith) o (first_in e f.here)
+      (goes q o (λ x h. get_or-set_other n (64 + t.b) x l.count 0 (λ d. omega arith) ∙ get_or-set_other l.numbers t.a x l.count 0 (λ d. omega arith)) w.so_far.first f.here (sym e) w.first_rising
+      (get_or-set_other n (64 + t.b) t.a l.count 0 (λ d. omega arith) ∙ get_or-set_same l.numbers t.a l.count 0 (omega arith) ∙ sym w.so_far.count))
+      (goes q o (λ x h. get_or-set_other n (64 + t.b) (64 + x) l.count 0 (λ d. omega arith) ∙ get_or-set_other l.numbers t.a (64 + x) l.count 0 (λ d. omega arith)) w.so_far.second f.there (sym (e ∙ f.same)) w.second_rising
+      (get_or-set_same n (64 + t.b) l.count 0 (simp length-set (omega arith)) ∙ sym w.so_far.count))
 
 -- ---- which plane comes next
 
-pub told_sooner : (a : List ℤ) (i : ℕ) (b : List ℤ) (j : ℕ) (p q : code.Plane) (r : Order) → plane p ≡ plane_at a i → plane q ≡ plane_at b j → i < length a / 4 → j < length b / 4 → OrderTold p q r → Sooner a i b j r
-told_sooner a i b j p q r e d l m o = subst (Sooner a i b j) (sym (o.exact ∙ (λ t. order_by (before (e t) (d t)) (before (d t) (e t))))) (go (before x y) (before y x) (λ t. record { is = t }) (λ t. record { is = t }) (λ t. t.is) (λ t. t.is))
+pub told_sooner : (a b : List ℤ) (t : Taken) (p q : code.Plane) (r : Ordering) → plane p ≡ plane_at a t.a → plane q ≡ plane_at b t.b → t.a < length a / 4 → t.b < length b / 4 → OrderTold p q r → Sooner a b t r
+told_sooner a b t p q r e d l m o = subst (Sooner a b t) (sym (o.exact ∙ (λ k. order_by (before (e k) (d k)) (before (d k) (e k))))) (go (before x y) (before y x) (λ k. record { is = k }) (λ k. record { is = k }) (λ k. k.is) (λ k. k.is))
   where
     x : Plane
-    x = plane_at a i
+    x = plane_at a t.a
 
     y : Plane
-    y = plane_at b j
+    y = plane_at b t.b
 
     neither : Ordered x y → (Before x y → ⊥) → (Before y x → ⊥) → x ≡ y
     neither (first b) f g = absurd (f b)
     neither (level e) f g = e
     neither (last b) f g = absurd (g b)
 
-    go : (u v : Bool) → (T u → Before x y) → (T v → Before y x) → (Before x y → T u) → (Before y x → T v) → Sooner a i b j (order_by u v)
+    go : (u v : Bool) → (T u → Before x y) → (T v → Before y x) → (Before x y → T u) → (Before y x → T v) → Sooner a b t (order_by u v)
     go true v f g f' g' = record { here = l; sooner = λ _. f tt }
     go false true f g f' g' = record { here = m; sooner = λ _. g tt }
     go false false f g f' g' = record { here = l; there = m; same = neither (ordered x y) f' g' }
@@ -196,17 +200,19 @@ told_sooner a i b j p q r e d l m o = subst (Sooner a i b j) (sym (o.exact ∙ (
 none_half : (row : ℕ → Plane) (n : ℕ) (u : ℕ → ℕ) → Half row n 0 [] u
 none_half row n u = record { inside = omega arith; taken = λ x l. absurd (omega arith); later = λ l p m. elim m [ ]; numbers = λ x l. absurd (omega arith) }
 
-pub none_joined : (a b joined : List ℤ) (numbers : List ℕ) → Joining a b joined numbers 0 0 0
+pub none_joined : (a b : List ℤ) (l : JoinedList) → length l.planes ≡ 512 → length l.numbers ≡ 128 → l.count ≡ 0 → Joining a b l 0 0
 unfolding flat_planes
-none_joined a b joined numbers = record {
+none_joined a b l long wide z = record {
+  long = long;
+  wide = wide;
   list = [];
-  count = refl;
-  few = omega arith;
-  table = refl;
+  count = sym z;
+  few = omega (arith, z);
+  table = ap (λ n. take (4 * n) l.planes) z;
   order = empty;
   from = λ p m. elim m [ ];
-  first = none_half (plane_at a) (length a / 4) (λ x. get_or numbers x 0);
-  second = none_half (plane_at b) (length b / 4) (λ x. get_or numbers (64 + x) 0);
+  first = none_half (plane_at a) (length a / 4) (λ x. get_or l.numbers x 0);
+  second = none_half (plane_at b) (length b / 4) (λ x. get_or l.numbers (64 + x) 0);
 }
 
 -- ---- a table that holds an ascending list
@@ -218,7 +224,7 @@ ascending_next (suc x) (next less a) e d = ascending_next x a e d
 
 module _ {xs : List ℤ} {ps : List Plane} (h : HoldsList xs ps) where
   pub list_count : length xs / 4 ≡ length ps
-  list_count = let e = ap length h.table ∙ planes_count ps in omega (arith, e)
+  list_count = planes_many ps h.table
 
   pub list_few : length xs / 4 ≤ 64
   list_few = omega (arith, list_count, h.few)
@@ -227,7 +233,7 @@ module _ {xs : List ℤ} {ps : List Plane} (h : HoldsList xs ps) where
   list_at x p e = ap (λ l. plane_at l x) h.table ∙ flat_plane ps x p e
 
   list_rows : rows_of xs ≡ ps
-  list_rows = (λ t. planes_to (h.table t) (list_count t)) ∙ planes_back ps
+  list_rows = planes_back ps h.table
 
   pub list_rising : Rising xs
   list_rising x l =
@@ -238,11 +244,12 @@ module _ {xs : List ℤ} {ps : List Plane} (h : HoldsList xs ps) where
 
 -- ---- the end
 
-pub all_joined : (a b joined : List ℤ) (numbers : List ℕ) (i j k : ℕ) → length a / 4 ≤ i → length b / 4 ≤ j → Joining a b joined numbers i j k → (ps qs : List Plane) → HoldsList a ps → HoldsList b qs → Joined ps qs joined numbers k
-all_joined a b joined numbers i j k hi hj s ps qs f g = record {
+pub all_joined : (a b : List ℤ) (l : JoinedList) (i j : ℕ) → length a / 4 ≤ i → length b / 4 ≤ j → Joining a b l i j → JoinTold a b l
+all_joined a b l i j hi hj s ps qs f g = record {
   count = sym s.count ∙ ap length whole;
   few = omega (arith, s.few, s.first.inside, s.second.inside, list_few f, list_few g);
   table = s.table ∙ ap flat_planes whole;
+  wide = omega (arith, s.wide);
   first_numbers = λ x p e. s.first.numbers x (omega (arith, elem_small ps x e, list_count f)) ∙ (λ t. place (whole t) (list_at f x p e t));
   second_numbers = λ x p e. s.second.numbers x (omega (arith, elem_small qs x e, list_count g)) ∙ (λ t. place (whole t) (list_at g x p e t));
 }

@@ -1,4 +1,4 @@
-mod Rows
+pub mod Rows
 mod Used
 mod Puts
 mod Listings

@@ -2,8 +2,9 @@
 --     rows_held, number_held, planes_held   the rows, their plane numbers, and the planes
 --     listed_planes, listed_rows            the planes that are kept, and the rows with their ranks
 use mathlib.Core.Path.{◌≡◌, refl, sym, ap, subst, ◌∙◌}
+use mathlib.Core.Bool.{Bool, false}
 use mathlib.Core.List.{List, ◌++◌}
-use Prim.Native.Nat.{ℕ, zero, suc, ◌-◌, ◌*◌, ◌/◌, ◌≤◌, ◌<◌}
+use Prim.Native.Nat.{ℕ, zero, suc, ◌-◌, ◌*◌, ◌/◌, ◌<◌}
 use native.Mathlib.Omega.{arith}
 use lib.IntN.{ℤ, pos}
 use lib.ListN.{length, get_or, drop, replicate}
@@ -16,16 +17,16 @@ use Rattle.theory.specs.Text.Renumber.{kept, rank, change}
 use Rattle.theory.specs.Text.Filled.{planes_count, nodes_count, filled_length}
 use Rattle.tables.specs.Rows.{entry_at, planes_to, entries_to}
 use Rattle.lists.specs.Lists.{HoldsRows, number_below, used_by}
-use Rattle.lists.specs.Steps.{marked, mark, MarkTold, Ranks, Puts, Numbered}
-use Rattle.lists.proofs.Rows.{planes_back, entry_there, entries_back, change_same, change_length}
+use Rattle.lists.specs.Steps.{marked, MarkTold, Ranks, Puts, Numbered}
+use Rattle.lists.proofs.Rows.{planes_many, planes_back, entry_there, entries_back, change_same, change_length}
 use Rattle.lists.proofs.Used.{marks_are, kept_length}
 
--- ---- zeros
+-- ---- no marks
 
-pub zero_at : (n k : ℕ) → ◌≡◌ {A = ℕ} (get_or (replicate n 0) k 0) 0
-zero_at zero k = refl
-zero_at (suc n) zero = refl
-zero_at (suc n) (suc k) = zero_at n k
+pub none_at : (n k : ℕ) → get_or (replicate n false) k false ≡ false
+none_at zero k = refl
+none_at (suc n) zero = refl
+none_at (suc n) (suc k) = none_at n k
 
 each_at : {A : Type 0} {Q : A → Type 0} {l : List A} → Each Q l → (i : ℕ) (d : A) → i < length l → Q (get_or l i d)
 each_at none i d h = absurd (omega arith)
@@ -45,19 +46,16 @@ module _ {joined : List ℤ} {ns : List ℕ} {m : ℕ} {ps : List Plane} {es : L
       subst (number_below (length ps)) (sym e) (each_at h.numbers i (entry 0 0 0) k)
 
   pub count_held : length joined / 4 ≡ length ps
-  count_held = let e = ap length h.planes ∙ planes_count ps in omega (arith, e)
-
-  pub joined_long : 4 * (length joined / 4) ≤ length joined
-  joined_long = omega arith
+  count_held = planes_many ps h.planes
 
   pub planes_held : planes_to joined (length joined / 4) ≡ ps
-  planes_held = (λ t. planes_to (h.planes t) (count_held t)) ∙ planes_back ps
+  planes_held = planes_back ps h.planes
 
   -- ---- what is listed
 
-  module _ (used : List ℕ) (told : MarkTold ns m used) where
+  module _ (used : List Bool) (told : MarkTold ns m used) where
     pub used_are : marked used ≡ used_by es
-    used_are = marks_are used (used_by es) (λ k. told k ∙ ap (λ l. mark (used_by l k)) rows_held)
+    used_are = marks_are used (used_by es) (λ k. told k ∙ ap (λ l. used_by l k) rows_held)
 
     pub listed_count : rank (marked used) 0 (length joined / 4) ≡ length (kept (used_by es) 0 ps)
     listed_count = ap (λ g. rank g 0 (length joined / 4)) used_are ∙ sym (kept_length (used_by es) ps (length joined / 4) (sym count_held))

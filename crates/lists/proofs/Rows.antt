@@ -1,20 +1,16 @@
 -- Rows of tables, and rows that are read again.
---     planes_back, entries_back   the rows of a flat list are the list
+--     planes_many, planes_back, entries_back   the rows of a flat list are the list
 --     change_end, change_same     one row changed more; changes that agree
 --     row_kept, row_more          row i of a table whose first i rows are changed, and that row changed
 --     put_more                    a plane stored after the planes of a table
---     stored_four                 four stores in a row
 use mathlib.Core.Path.{◌≡◌, refl, sym, ap, ◌∙◌}
 use mathlib.Core.List.{List, [], ◌∷◌, ◌++◌, append_assoc}
 use mathlib.Core.Option.{some}
-use Prim.Native.Nat.{ℕ, zero, suc, ◌+◌, ◌*◌, ◌≤◌, ◌<◌}
+use Prim.Native.Nat.{ℕ, zero, suc, ◌+◌, ◌*◌, ◌/◌, ◌≤◌, ◌<◌}
 use native.Mathlib.Omega.{arith}
 use lib.IntN.{ℤ, pos}
 use lib.ListN.{length, get_or, get_elem?, set, take, drop, length-append}
 use lib.Seq.{sets, length-sets, take-suc, take_all, drop-cons, set_at, get_or_at}
-use mir.Syntax.{w64}
-use mir.Val.{SFits, to_z, of_z}
-use mir.Facts.{to_z-of_z}
 use Rattle.whole.specs.Tests.{differ}
 use Rattle.whole.specs.Lists.{Each, Each.none, Each.◌and◌}
 use Rattle.whole.specs.Members.{elem_at}
@@ -45,8 +41,12 @@ planes_part ps (suc i) l =
     let d = quad (pos 0) (pos 0) (pos 0) (pos 0) in
     (λ t. planes_part ps i (omega arith) t ++ (plane_there ps i d l t ∷ [])) ∙ sym (take-suc ps i d l)
 
-pub planes_back : (ps : List Plane) → planes_to (flat_planes ps) (length ps) ≡ ps
-planes_back ps = planes_part ps (length ps) (omega arith) ∙ take_all (length ps) ps (omega arith)
+module _ {xs : List ℤ} (ps : List Plane) (e : xs ≡ flat_planes ps) where
+  pub planes_many : length xs / 4 ≡ length ps
+  planes_many = omega (arith, ap length e, planes_count ps)
+
+  pub planes_back : planes_to xs (length xs / 4) ≡ ps
+  planes_back = (λ t. planes_to (e t) (planes_many t)) ∙ planes_part ps (length ps) (omega arith) ∙ take_all (length ps) ps (omega arith)
 
 -- ---- entries
 
@@ -160,20 +160,3 @@ pub planes_length : (xs : List ℤ) (i : ℕ) → length (planes_to xs i) ≡ i
 unfolding planes_to
 planes_length xs zero = refl
 planes_length xs (suc i) = simp length-append (omega (arith, planes_length xs i))
-
--- ---- four stores in a row, of numbers that are read back from their bits
-
-abbrev bits : ℤ → ℤ
-bits z = to_z w64 (of_z w64 z)
-
-pub stored_four : (t : List ℤ) (i : ℕ) {a b c d : ℤ} → SFits w64 a → SFits w64 b → SFits w64 c → SFits w64 d
-    → set (set (set (set t i (bits a)) (i + 1) (bits b)) (i + 2) (bits c)) (i + 3) (bits d) ≡ sets t i (a ∷ b ∷ c ∷ d ∷ [])
-stored_four t i f g h l =
-    let a = to_z-of_z f in
-    let b = to_z-of_z g in
-    let c = to_z-of_z h in
-    let d = to_z-of_z l in
-    let p : i + 1 ≡ suc i = omega arith in
-    let q : i + 2 ≡ suc (suc i) = omega arith in
-    let r : i + 3 ≡ suc (suc (suc i)) = omega arith in
-    λ j. set (set (set (set t i (a j)) (p j) (b j)) (q j) (c j)) (r j) (d j)

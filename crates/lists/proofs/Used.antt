@@ -11,7 +11,9 @@ use Prim.Native.Nat.{ℕ, zero, suc, ◌+◌, ◌-◌, ◌*◌, ◌≤◌, ◌<�
 use native.Mathlib.Omega.{arith}
 use native.Mathlib.Numerals.{add-one}
 use lib.Dec.{T, eqb, eqb→eq}
+use borrow.Author.Count.{below_more}
 use lib.ListN.{length, get_or, set}
+use mir.Val.{bool_byte}
 use lib.Seq.{get_or-set_same, get_or-set_other}
 use Rattle.whole.specs.Tests.{◌or◌, eq_test}
 use Rattle.scope.specs.Planes.{Plane}
@@ -19,73 +21,56 @@ use Rattle.scope.specs.Judging.{uses}
 use Rattle.theory.specs.Text.Renumber.{kept, rank}
 use Rattle.theory.specs.Text.Uses.{uses_end}
 use Rattle.tables.specs.Rows.{entries_to}
-use Rattle.lists.specs.Steps.{mark, marked, MarkTold}
+use Rattle.lists.specs.Steps.{marked, MarkTold}
 
 -- ---- marks
 
 -- no row, no mark
-pub marks_none : (ns used : List ℕ) → ((k : ℕ) → get_or used k 0 ≡ 0) → MarkTold ns 0 used
+pub marks_none : (ns : List ℕ) (used : List Bool) → ((k : ℕ) → get_or used k false ≡ false) → MarkTold ns 0 used
 unfolding entries_to uses
 marks_none ns used h k = h k
 
 -- a row marks its plane
-pub mark_more : (used ns : List ℕ) (i : ℕ) → get_or ns (3 * i) 0 < length used → MarkTold ns i used → MarkTold ns (i + 1) (set used (get_or ns (3 * i) 0) 1)
+pub mark_more : (used : List Bool) (ns : List ℕ) (i : ℕ) → get_or ns (3 * i) 0 < length used → MarkTold ns i used → MarkTold ns (i + 1) (set used (get_or ns (3 * i) 0) true)
 unfolding entries_to
-mark_more used ns i l h k = go (eqb k n) (eqb→eq k n) (eq_test k n) ∙ ap mark (sym (uses_end k n (get_or ns (3 * i + 1) 0) (get_or ns (3 * i + 2) 0) (entries_to ns i)) ∙ ap (λ j. uses k (entries_to ns j)) {x = suc i} {y = i + 1} (omega arith))
+mark_more used ns i l h k = go (eqb k n) (eqb→eq k n) (eq_test k n) ∙ sym (uses_end k n (get_or ns (3 * i + 1) 0) (get_or ns (3 * i + 2) 0) (entries_to ns i)) ∙ ap (λ j. uses k (entries_to ns j)) {x = suc i} {y = i + 1} (omega arith)
   where
     n : ℕ
     n = get_or ns (3 * i) 0
 
-    both : (a : Bool) → 1 ≡ mark (a or true)
+    both : (a : Bool) → true ≡ (a or true)
     both true = refl
     both false = refl
 
-    one : (a : Bool) → mark a ≡ mark (a or false)
+    one : (a : Bool) → a ≡ (a or false)
     one true = refl
     one false = refl
 
-    go : (b : Bool) → (T b → k ≡ n) → (k ≡ n → T b) → get_or (set used n 1) k 0 ≡ mark (uses k (entries_to ns i) or b)
-    go true f g = ap (λ j. get_or (set used n 1) j 0) (f tt) ∙ get_or-set_same used n 1 0 l ∙ both (uses k (entries_to ns i))
-    go false f g = let o : k ≢ n = g in get_or-set_other used n k 1 0 o ∙ h k ∙ one (uses k (entries_to ns i))
+    go : (b : Bool) → (T b → k ≡ n) → (k ≡ n → T b) → get_or (set used n true) k false ≡ (uses k (entries_to ns i) or b)
+    go true f g = ap (λ j. get_or (set used n true) j false) (f tt) ∙ get_or-set_same used n true false l ∙ both (uses k (entries_to ns i))
+    go false f g = let o : k ≢ n = g in get_or-set_other used n k true false o ∙ h k ∙ one (uses k (entries_to ns i))
 
 -- what is marked is what is used
-pub marks_are : (used : List ℕ) (g : ℕ → Bool) → ((k : ℕ) → get_or used k 0 ≡ mark (g k)) → marked used ≡ g
-unfolding marked
-marks_are used g h = λ t k. (ap (λ v. eqb v 1) (h k) ∙ by (g k)) t
-  where
-    by : (b : Bool) → eqb (mark b) 1 ≡ b
-    by true = refl
-    by false = refl
+pub marks_are : (used : List Bool) (g : ℕ → Bool) → ((k : ℕ) → get_or used k false ≡ g k) → marked used ≡ g
+marks_are used g h = λ t k. h k t
 
-pub mark_small : (b : Bool) → mark b ≤ 1
+mark_small : (b : Bool) → bool_byte b ≤ 1
 mark_small true = omega arith
 mark_small false = omega arith
-
-pub marks_small : (ns used : List ℕ) (m : ℕ) → MarkTold ns m used → (k : ℕ) → get_or used k 0 ≤ 1
-marks_small ns used m h k = omega (arith, h k, mark_small (uses k (entries_to ns m)))
-
-pub mark_is : (used : List ℕ) (k : ℕ) → get_or used k 0 ≤ 1 → mark (marked used k) ≡ get_or used k 0
-unfolding marked
-mark_is used k l = by (get_or used k 0) l
-  where
-    by : (v : ℕ) → v ≤ 1 → mark (eqb v 1) ≡ v
-    by zero l = refl
-    by (suc zero) l = refl
-    by (suc (suc v)) l = absurd (omega arith)
 
 -- ---- ranks
 
 module _ (g : ℕ → Bool) where
-  rank_suc : (k n : ℕ) → rank g k (suc n) ≡ rank g k n + mark (g (k + n))
+  rank_suc : (k n : ℕ) → rank g k (suc n) ≡ rank g k n + bool_byte (g (k + n))
   unfolding rank
-  rank_suc k zero = by (g k) ∙ ap (λ j. 0 + mark (g j)) {x = k} {y = k + 0} (omega arith)
+  rank_suc k zero = by (g k) ∙ ap (λ j. 0 + bool_byte (g j)) {x = k} {y = k + 0} (omega arith)
     where
-      by : (b : Bool) → cond b 1 0 ≡ 0 + mark b
+      by : (b : Bool) → cond b 1 0 ≡ 0 + bool_byte b
       by true = refl
       by false = refl
-  rank_suc k (suc n) = by (g k) (rank_suc (suc k) n) ∙ ap (λ j. cond (g k) (suc (rank g (suc k) n)) (rank g (suc k) n) + mark (g j)) {x = suc k + n} {y = k + suc n} (omega arith)
+  rank_suc k (suc n) = by (g k) (rank_suc (suc k) n) ∙ ap (λ j. cond (g k) (suc (rank g (suc k) n)) (rank g (suc k) n) + bool_byte (g j)) {x = suc k + n} {y = k + suc n} (omega arith)
     where
-      by : (b : Bool) → rank g (suc k) (suc n) ≡ rank g (suc k) n + mark (g (suc k + n)) → cond b (suc (rank g (suc k) (suc n))) (rank g (suc k) (suc n)) ≡ cond b (suc (rank g (suc k) n)) (rank g (suc k) n) + mark (g (suc k + n))
+      by : (b : Bool) → rank g (suc k) (suc n) ≡ rank g (suc k) n + bool_byte (g (suc k + n)) → cond b (suc (rank g (suc k) (suc n))) (rank g (suc k) (suc n)) ≡ cond b (suc (rank g (suc k) n)) (rank g (suc k) n) + bool_byte (g (suc k + n))
       by true e = omega (arith, e)
       by false e = e
 
@@ -93,8 +78,8 @@ module _ (g : ℕ → Bool) where
   unfolding rank
   rank_none = refl
 
-  pub rank_next : (n : ℕ) → rank g 0 (n + 1) ≡ rank g 0 n + mark (g n)
-  rank_next n = ap (rank g 0) (add-one n) ∙ rank_suc 0 n ∙ ap (λ j. rank g 0 n + mark (g j)) {x = 0 + n} {y = n} (omega arith)
+  pub rank_next : (n : ℕ) → rank g 0 (n + 1) ≡ rank g 0 n + bool_byte (g n)
+  rank_next n = ap (rank g 0) (add-one n) ∙ rank_suc 0 n ∙ ap (λ j. rank g 0 n + bool_byte (g j)) {x = 0 + n} {y = n} (omega arith)
 
   pub rank_small : (n : ℕ) → rank g 0 n ≤ n
   rank_small zero = omega (arith, rank_none)
@@ -109,11 +94,7 @@ module _ (g : ℕ → Bool) where
 
 -- one rank more
 pub ranked_more : (g : ℕ → Bool) (ranks : List ℕ) (i : ℕ) → i < length ranks → ((k : ℕ) → k < i → get_or ranks k 0 ≡ rank g 0 k) → (k : ℕ) → k < i + 1 → get_or (set ranks i (rank g 0 i)) k 0 ≡ rank g 0 k
-ranked_more g ranks i l h k b = go (i - k) refl
-  where
-    go : (d : ℕ) → i - k ≡ d → get_or (set ranks i (rank g 0 i)) k 0 ≡ rank g 0 k
-    go zero q = let e : k ≡ i = omega arith in rw e (get_or-set_same ranks i (rank g 0 i) 0 l)
-    go (suc d) q = get_or-set_other ranks i k (rank g 0 i) 0 (λ e. omega arith) ∙ h k (omega arith)
+ranked_more g ranks i l h = below_more (λ k. get_or (set ranks i (rank g 0 i)) k 0 ≡ rank g 0 k) i (λ k b. get_or-set_other ranks i k (rank g 0 i) 0 (λ e. omega arith) ∙ h k b) (get_or-set_same ranks i (rank g 0 i) 0 l)
 
 -- ---- planes that are kept
 

@@ -1,7 +1,7 @@
 -- What joining and listing promise.
 --     JoinIn, JoinTold    two ascending lists of planes, joined; the number of each plane in the joined list
 --     ListIn, ListTold    rows numbered by a list; the planes that they use, and the rows numbered by these
-use Rattle.std.specs.Prelude.{◌≡◌, Bool, List, ◌++◌, ℕ, ◌+◌, ◌*◌, ◌/◌, ◌≤◌, ◌<◌, ℤ, pos, length, get_or, take, replicate}
+use Rattle.std.specs.Prelude.{◌≡◌, Bool, List, ◌++◌, ℕ, ◌+◌, ◌*◌, ◌/◌, ◌≤◌, ◌<◌, ℤ, pos, length, get_or, take, replicate, Result, Ok, Err}
 use Rattle.std.proofs.Math.Option.{some}
 use Rattle.std.proofs.Math.ListN.{get_elem?}
 use Rattle.whole.specs.Lists.{Each}
@@ -11,8 +11,7 @@ use Rattle.scope.specs.Judging.{uses}
 use Rattle.scope.specs.Answers.{flat_planes, flat_nodes, filled}
 use Rattle.theory.specs.Planes.Lists.{Ascending}
 use Rattle.theory.specs.Text.Renumber.{kept, rank, change}
-use Rattle.lists.specs.declared.Listed.{Listed}
-use Rattle.lists.specs.declared.Listed.TheVariants.{Planes, Refused}
+use Rattle.lists.specs.declared.JoinedList.{JoinedList}
 
 -- ---- joining
 
@@ -22,24 +21,23 @@ pub record HoldsList (xs : List ℤ) (ps : List Plane) : Type 0 where
   pub order : Ascending ps
   pub few : length ps ≤ 64
 
-pub record JoinIn (a b joined : List ℤ) (numbers : List ℕ) : Type 0 where
+pub record JoinIn (a b : List ℤ) : Type 0 where
   pub first : List Plane
   pub second : List Plane
   pub first_held : HoldsList a first
   pub second_held : HoldsList b second
-  pub room : 512 ≤ length joined
-  pub number_room : 128 ≤ length numbers
 
 -- the joined list of P and Q stands in the table, and each plane's number in `numbers`
-pub record Joined (ps qs : List Plane) (joined : List ℤ) (numbers : List ℕ) (r : ℕ) : Type 0 where
-  pub count : r ≡ length (ascending (ps ++ qs))
-  pub few : r ≤ 128
-  pub table : take (4 * r) joined ≡ flat_planes (ascending (ps ++ qs))
-  pub first_numbers : (i : ℕ) (p : Plane) → get_elem? ps i ≡ some p → get_or numbers i 0 ≡ place (ascending (ps ++ qs)) p
-  pub second_numbers : (i : ℕ) (p : Plane) → get_elem? qs i ≡ some p → get_or numbers (64 + i) 0 ≡ place (ascending (ps ++ qs)) p
+pub record Joined (ps qs : List Plane) (l : JoinedList) : Type 0 where
+  pub count : l.count ≡ length (ascending (ps ++ qs))
+  pub few : l.count ≤ 128
+  pub table : take (4 * l.count) l.planes ≡ flat_planes (ascending (ps ++ qs))
+  pub wide : 128 ≤ length l.numbers
+  pub first_numbers : (i : ℕ) (p : Plane) → get_elem? ps i ≡ some p → get_or l.numbers i 0 ≡ place (ascending (ps ++ qs)) p
+  pub second_numbers : (i : ℕ) (p : Plane) → get_elem? qs i ≡ some p → get_or l.numbers (64 + i) 0 ≡ place (ascending (ps ++ qs)) p
 
-abbrev pub JoinTold : List ℤ → List ℤ → List ℤ → List ℕ → ℕ → Type 0
-JoinTold a b joined numbers r = (ps qs : List Plane) → HoldsList a ps → HoldsList b qs → Joined ps qs joined numbers r
+abbrev pub JoinTold : List ℤ → List ℤ → JoinedList → Type 0
+JoinTold a b l = (ps qs : List Plane) → HoldsList a ps → HoldsList b qs → Joined ps qs l
 
 -- ---- what is used
 
@@ -79,9 +77,9 @@ pub data TooMany (ps : List Plane) (es : List Entry) (planes : List ℤ) : ℕ �
   no_room : length planes / 4 < length (kept (used_by es) 0 ps) → TooMany ps es planes 8
   over_64 : length (kept (used_by es) 0 ps) ≤ length planes / 4 → 64 < length (kept (used_by es) 0 ps) → TooMany ps es planes 9
 
-abbrev pub Listing : List Plane → List Entry → List ℤ → List ℤ → List ℕ → Listed → Type 0
-Listing ps es planes planes' ns' (Planes c) = ListedAs ps es planes' ns' c
-Listing ps es planes planes' ns' (Refused k) = TooMany ps es planes k
+abbrev pub Listing : List Plane → List Entry → List ℤ → List ℤ → List ℕ → Result ℕ ℕ → Type 0
+Listing ps es planes planes' ns' (Ok c) = ListedAs ps es planes' ns' c
+Listing ps es planes planes' ns' (Err k) = TooMany ps es planes k
 
-abbrev pub ListTold : List ℤ → List ℤ → List ℤ → List ℕ → List ℕ → ℕ → Listed → Type 0
+abbrev pub ListTold : List ℤ → List ℤ → List ℤ → List ℕ → List ℕ → ℕ → Result ℕ ℕ → Type 0
 ListTold joined planes planes' ns ns' m r = (ps : List Plane) (es : List Entry) → HoldsRows joined ns m ps es → Listing ps es planes planes' ns' r

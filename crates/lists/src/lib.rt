@@ -1,13 +1,24 @@
 // Plane lists: those of two solids joined into one, and the planes that rows still use listed anew.
 #![tactic(auto)]
 
-ghost use Rattle.std.specs.Prelude.{◌≡◌, [], ◌∷◌, ◌+◌, ◌*◌, ◌≤◌, ◌<◌, length};
-ghost use Rattle.std.proofs.lemmas.List.Edits.{sets};
+ghost use Rattle.std.specs.Prelude.{◌≡◌, ◌*◌, ◌/◌, ◌≤◌, length, take};
+ghost use Rattle.refusals.specs.Numbers.{numbered};
 ghost use Rattle.lists.specs.Lists.{JoinIn, JoinTold, ListIn, ListTold};
 ghost use Rattle.lists.specs.Steps.{NextIn, Sooner, TakeIn, TakeTold, MarkIn, MarkTold, RankIn, RankTold, PutIn, Puts, NumberIn, Numbered};
 
-use planes::{Order, Plane};
+use refusals::Refusal;
+use std::cmp::Ordering;
 use tables::{Solid, row};
+
+// The planes of A and B, ascending and without repeats.
+#[derive(Drop)]
+pub struct JoinedList {
+    planes: [i64; 2 * 4 * Solid::MOST_PLANES],
+    // The number here of each plane of A and, from 64 on, of each plane of B.
+    pub numbers: [u16; 2 * Solid::MOST_PLANES],
+    // How many planes are joined.
+    count: usize,
+}
 
 // How far the lists of A and of B are taken.
 #[derive(Clone, Copy)]
@@ -16,132 +27,113 @@ struct Taken {
     b: usize,
 }
 
-// How many planes the rows use, or the number of the refusal.
-#[derive(Clone, Copy)]
-pub enum Listed {
-    Planes(usize),
-    Refused(u8),
-}
-
-// Writes row k of a list of planes.
-fn put_plane(list: &mut [i64], k: usize, p: Plane)
-    requires { 4 * k + 4 ≤ length list.old }
-    ensures { list.new ≡ sets list.old (4 * k) (p.a ∷ p.b ∷ p.c ∷ p.d ∷ []) }
-{
-    let at = 4 * k;
-    let a = p.a;
-    let b = p.b;
-    let c = p.c;
-    let d = p.d;
-    list[at] = a;
-    list[at + 1] = b;
-    list[at + 2] = c;
-    list[at + 3] = d;
-}
-
 // ---- joining
 
-// Which plane comes first, A's row i or B's row j. A list that has ended comes after the other.
-fn sooner(a: &[i64], i: usize, b: &[i64], j: usize) -> Order
-    requires { NextIn a.now i b.now j }
-    ensures { Sooner a.now i b.now j result }
+// Which plane comes first, A's next or B's next. A list that has ended comes after the other.
+fn sooner(a: &[i64], b: &[i64], t: Taken) -> Ordering
+    requires { NextIn a.now b.now t }
+    ensures { Sooner a.now b.now t result }
 {
-    if a.len() / 4 <= i {
-        return Order::After;
+    if a.len() / 4 <= t.a {
+        return Ordering::Greater;
     }
-    if b.len() / 4 <= j {
-        return Order::Before;
+    if b.len() / 4 <= t.b {
+        return Ordering::Less;
     }
-    row(a, i).order(row(b, j))
+    row(a, t.a).order(row(b, t.b))
 }
 
-// Takes the sooner of A's row i and B's row j, or both where they are the same, as row k of the joined list.
-fn take(
-    a: &[i64],
-    i: usize,
-    b: &[i64],
-    j: usize,
-    joined: &mut [i64],
-    k: usize,
-    numbers: &mut [u16],
-) -> Taken
-    requires { TakeIn a.now b.now joined.old numbers.old i j k }
-    ensures { TakeTold a.now b.now joined.new numbers.new i j k result }
-{
-    match sooner(a, i, b, j) {
-        Order::Before => {
-            put_plane(joined, k, row(a, i));
-            numbers[i] = k as u16;
-            Taken { a: i + 1, b: j }
+impl JoinedList {
+    // The planes of A and B, joined.
+    pub fn of(a: &[i64], b: &[i64]) -> JoinedList
+        requires { JoinIn a.now b.now }
+        ensures { JoinTold a.now b.now result }
+    {
+        let mut list = JoinedList {
+            planes: [0; 2 * 4 * Solid::MOST_PLANES],
+            numbers: [0; 2 * Solid::MOST_PLANES],
+            count: 0,
+        };
+        let mut t = Taken { a: 0, b: 0 };
+        while t.a < a.len() / 4 || t.b < b.len() / 4 {
+            t = list.take(a, b, t);
         }
-        Order::Same => {
-            put_plane(joined, k, row(a, i));
-            numbers[i] = k as u16;
-            numbers[64 + j] = k as u16;
-            Taken { a: i + 1, b: j + 1 }
-        }
-        Order::After => {
-            put_plane(joined, k, row(b, j));
-            numbers[64 + j] = k as u16; // of B alone
-            Taken { a: i, b: j + 1 }
-        }
+        list
     }
-}
 
-// The planes of A and B, ascending and without repeats: how many they are. `numbers` gets the number there of each plane of A and, from
-// 64 on, of each plane of B.
-pub fn join(a: &[i64], b: &[i64], joined: &mut [i64], numbers: &mut [u16]) -> usize
-    requires { JoinIn a.now b.now joined.old numbers.old }
-    ensures { JoinTold a.now b.now joined.new numbers.new result }
-{
-    let n = a.len() / 4;
-    let m = b.len() / 4;
-    let mut i: usize = 0;
-    let mut j: usize = 0;
-    let mut k: usize = 0;
-    while i < n || j < m {
-        let t = take(a, i, b, j, joined, k, numbers);
-        i = t.a;
-        j = t.b;
-        k += 1;
+    // The table of the joined planes.
+    pub fn planes(&self) -> &[i64]
+        requires { self.now.count ≤ 128 }
+        ensures { result.now ≡ take (4 * self.now.count) self.now.planes }
+    {
+        &self.planes[0..4 * self.count]
     }
-    k
+
+    // Joins the sooner of the next planes of A and of B, or both where they are the same.
+    fn take(&mut self, a: &[i64], b: &[i64], t: Taken) -> Taken
+        requires { TakeIn a.now b.now self.old t }
+        ensures { TakeTold a.now b.now self.new t result }
+    {
+        let k = self.count;
+        self.count = k + 1;
+        match sooner(a, b, t) {
+            Ordering::Less => {
+                row(a, t.a).store(&mut self.planes, 4 * k);
+                self.numbers[t.a] = k as u16;
+                Taken { a: t.a + 1, b: t.b }
+            }
+            Ordering::Equal => {
+                row(a, t.a).store(&mut self.planes, 4 * k);
+                self.numbers[t.a] = k as u16;
+                self.numbers[64 + t.b] = k as u16;
+                Taken {
+                    a: t.a + 1,
+                    b: t.b + 1,
+                }
+            }
+            Ordering::Greater => {
+                row(b, t.b).store(&mut self.planes, 4 * k);
+                self.numbers[64 + t.b] = k as u16; // of B alone
+                Taken { a: t.a, b: t.b + 1 }
+            }
+        }
+    }
 }
 
 // ---- what is used
 
-// Marks by 1 each plane that one of the m rows uses.
-fn mark_used(nodes: &[u16], m: usize, used: &mut [u16])
+// Marks each plane that one of the m rows uses.
+fn mark_used(nodes: &[u16], m: usize, used: &mut [bool])
     requires { MarkIn nodes.now m used.old }
     ensures { MarkTold nodes.now m used.new }
 {
     for i in 0..m {
         let p = nodes[3 * i] as usize;
-        used[p] = 1;
+        used[p] = true;
     }
 }
 
 // The rank of each of n planes, which is how many of the planes before it are used: how many are used in all.
-fn rank(used: &[u16], n: usize, ranks: &mut [u16]) -> usize
+fn rank(used: &[bool], n: usize, ranks: &mut [u16]) -> usize
     requires { RankIn used.now n ranks.old }
     ensures { RankTold used.now n ranks.new result }
 {
     let mut k: u16 = 0;
     for i in 0..n {
         ranks[i] = k;
-        k += used[i];
+        k += u16::from(used[i]);
     }
     k as usize
 }
 
-// Puts the used ones among n joined planes into the lent table, each at its rank.
-fn put_used(joined: &[i64], n: usize, used: &[u16], ranks: &[u16], planes: &mut [i64])
-    requires { PutIn joined.now n used.now ranks.now planes.old }
-    ensures { Puts joined.now n used.now planes.new }
+// Puts the used ones among the joined planes into the lent table, each at its rank.
+fn put_used(joined: &[i64], used: &[bool], ranks: &[u16], planes: &mut [i64])
+    requires { PutIn joined.now used.now ranks.now planes.old }
+    ensures { Puts joined.now (length joined.now / 4) used.now planes.new }
 {
-    for i in 0..n {
-        if used[i] == 1 {
-            put_plane(planes, ranks[i] as usize, row(joined, i));
+    for i in 0..joined.len() / 4 {
+        if used[i] {
+            row(joined, i).store(planes, 4 * ranks[i] as usize);
         }
     }
 }
@@ -157,24 +149,29 @@ fn to_ranks(nodes: &mut [u16], m: usize, ranks: &[u16])
     }
 }
 
-// Lists the planes that the m rows use, in a table of zeros, and numbers the rows by that list: 8 for more planes than the table has
-// rows, 9 for more than 64.
-pub fn list_used(joined: &[i64], planes: &mut [i64], nodes: &mut [u16], m: usize) -> Listed
+// Lists the planes that the m rows use, in a table of zeros, and numbers the rows by that list: how many they are. Refused with 8 for more
+// planes than the table has rows, and with 9 for more than 64.
+pub fn list_used(
+    joined: &[i64],
+    planes: &mut [i64],
+    nodes: &mut [u16],
+    m: usize,
+) -> Result<usize, Refusal>
     requires { ListIn joined.now planes.old nodes.old m }
-    ensures { ListTold joined.now planes.old planes.new nodes.old nodes.new m result }
+    ensures { ListTold joined.now planes.old planes.new nodes.old nodes.new m (numbered result) }
 {
-    let mut used = [0u16; 128];
-    let mut ranks = [0u16; 128];
+    let mut used = [false; 2 * Solid::MOST_PLANES];
+    let mut ranks = [0u16; 2 * Solid::MOST_PLANES];
     let n = joined.len() / 4;
     mark_used(nodes, m, &mut used);
     let count = rank(&used, n, &mut ranks);
     if planes.len() / 4 < count {
-        return Listed::Refused(8); // no room
+        return Err(Refusal::NoRoom);
     }
     if Solid::MOST_PLANES < count {
-        return Listed::Refused(9); // over 64
+        return Err(Refusal::OverPlanes);
     }
-    put_used(joined, n, &used, &ranks, planes);
+    put_used(joined, &used, &ranks, planes);
     to_ranks(nodes, m, &ranks);
-    Listed::Planes(count)
+    Ok(count)
 }

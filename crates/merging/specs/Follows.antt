@@ -3,7 +3,7 @@
 --     merge_refusal        a number is given only when the definitions give it, and leaves every table all zeros
 --     merge_given          demand 2: a solid that is given is the tree that the definition gives, row for row; it answers points as the
 --                          operation does, keeps no plane that misses its cell, and has at most n + m + n·m rows
-use Rattle.std.specs.Prelude.{◌≡◌, refl, List, ℕ, ◌+◌, ◌*◌, ◌≤◌, ℤ, pos, length}
+use Rattle.std.specs.Prelude.{◌≡◌, refl, List, ℕ, ◌+◌, ◌*◌, ◌≤◌, ℤ, pos, length, Result, Ok, Err}
 use Rattle.scope.specs.Planes.{Point}
 use Rattle.scope.specs.Solids.{Tree, rows, planes, Tables, tables_of, answer as answers}
 use Rattle.scope.specs.Cells.{Inside, box, Off, Operation, operate, Merged}
@@ -15,16 +15,17 @@ use Rattle.theory.specs.Cells.Walk.{Tight}
 use Rattle.theory.specs.Text.Lent.{lent}
 use Rattle.theory.specs.Theorems.{merge_points, merge_tight, merge_rows}
 use Rattle.tables.specs.declared.Solid.{Solid}
-use Rattle.results.specs.declared.Given as Given
+use Rattle.refusals.specs.declared.Refusal as code
+use Rattle.refusals.specs.Numbers.{numbered}
 use Rattle.results.specs.Results.{merge_of, rooms, given_of}
 use Rattle.results.specs.Follows.{told_unique, Refusal, told_refusal, not_refused, tree_given}
 use Rattle.merging.specs.Promises.{MergeTold}
 
 module _ {op : ℕ} {pa : List ℤ} {na : List ℕ} {ra : ℕ} {pb : List ℤ} {nb : List ℕ} {rb : ℕ} {xs xs' : List ℤ} {ns ns' : List ℕ} {w w' : List ℤ} where
-  pub merge_told_unique : {xs'' : List ℤ} {ns'' : List ℕ} {w'' : List ℤ} {i j : Given.Given} → MergeTold op pa na ra pb nb rb xs xs' ns ns' w w' i → MergeTold op pa na ra pb nb rb xs xs'' ns ns'' w w'' j → (i ≡ j) × (xs' ≡ xs'') × (ns' ≡ ns'') × (w' ≡ w'')
+  pub merge_told_unique : {xs'' : List ℤ} {ns'' : List ℕ} {w'' : List ℤ} {i j : Result Solid code.Refusal} → MergeTold op pa na ra pb nb rb xs xs' ns ns' w w' (numbered i) → MergeTold op pa na ra pb nb rb xs xs'' ns ns'' w w'' (numbered j) → (i ≡ j) × (xs' ≡ xs'') × (ns' ≡ ns'') × (w' ≡ w'')
   merge_told_unique h k = told_unique h k
 
-  pub merge_refusal : {k : ℕ} → MergeTold op pa na ra pb nb rb xs xs' ns ns' w w' (Given.TheVariants.Refused k) → Refusal (merge_of op (lent pa na ra) (lent pb nb rb)) xs xs' ns ns' w w' k
+  pub merge_refusal : {k : ℕ} → MergeTold op pa na ra pb nb rb xs xs' ns ns' w w' (Err k) → Refusal (merge_of op (lent pa na ra) (lent pb nb rb)) xs xs' ns ns' w w' k
   merge_refusal h = told_refusal h
 
 -- ---- a solid
@@ -39,7 +40,7 @@ pub record Merges (op : ℕ) (pa : List ℤ) (na : List ℕ) (ra : ℕ) (pb : Li
   pub second_is : judge_lent (lent pb nb rb) ≡ accepted (tables_of second)
   pub tree : Tree
   pub right : Merged operation first second tree
-  pub counts : Given.TheVariants.Solid s ≡ given_of (given (tables_of tree))
+  pub counts : Ok s ≡ given_of (given (tables_of tree))
   pub plane_rows : xs' ≡ filled (pos 0) (length xs) (plane_numbers (tables_of tree))
   pub node_rows : ns' ≡ filled 0 (length ns) (node_numbers (tables_of tree))
   pub points : (X : Point) → Inside box X → Off (planes first) X → Off (planes second) X → answers tree X ≡ operate operation (answers first X) (answers second X)
@@ -47,7 +48,7 @@ pub record Merges (op : ℕ) (pa : List ℤ) (na : List ℕ) (ra : ℕ) (pb : Li
   pub few : rows tree ≤ rows first + rows second + rows first * rows second
 
 module _ {op : ℕ} {pa : List ℤ} {na : List ℕ} {ra : ℕ} {pb : List ℤ} {nb : List ℕ} {rb : ℕ} {xs xs' : List ℤ} {ns ns' : List ℕ} {w w' : List ℤ} {s : Solid} where
-  pub merge_given : MergeTold op pa na ra pb nb rb xs xs' ns ns' w w' (Given.TheVariants.Solid s) → Merges op pa na ra pb nb rb xs xs' ns ns' s
+  pub merge_given : MergeTold op pa na ra pb nb rb xs xs' ns ns' w w' (Ok s) → Merges op pa na ra pb nb rb xs xs' ns ns' s
   merge_given h = with_work h.answer h.exact refl
     where
       by : (a : Answer Tables) → MergeBy (rooms xs ns) op (judge_lent (lent pa na ra)) (judge_lent (lent pb nb rb)) a → h.answer ≡ a → Merges op pa na ra pb nb rb xs xs' ns ns' s

@@ -1,42 +1,42 @@
 // The solid that a merge or a normal form gave, written as text.
 #![tactic(auto)]
 
-ghost use Rattle.outputs.specs.Outputs.{Refuses, not_given, WriteIn, WriteTold};
+ghost use Rattle.refusals.specs.Numbers.{number, numbered};
+ghost use Rattle.outputs.specs.Outputs.{Refuses, RowsIn, RowsLent, WriteIn, WriteTold};
 
-use results::Given;
-use solids::Written;
+use refusals::Refusal;
+use tables::{LentSolid, Solid};
 
-// A refusal: its number, and a text of zeros.
-pub fn refuse(k: u8, out: &mut [u8]) -> Written
-    ensures { Refuses k out.old out.new result }
+// A refusal, and a text of zeros.
+pub fn refuse(r: Refusal, out: &mut [u8]) -> Result<usize, Refusal>
+    ensures { Refuses (number r) out.old out.new (numbered result) }
 {
-    zeros::clear_text(out);
-    Written::Refused(k)
+    zeros::clear(out);
+    Err(r)
 }
 
-// The refusal of a call, told of its text. A solid that is given has none: it is not asked for, and the number is 0.
-fn not_given(g: Given, out: &mut [u8]) -> Written
-    ensures { Refuses (not_given g) out.old out.new result }
+// The rows of a solid, which stand first in tables, lent.
+pub fn rows_of<'a>(s: Solid, planes: &'a [i64], nodes: &'a [u16]) -> LentSolid<'a>
+    requires { RowsIn s planes.now nodes.now }
+    ensures { RowsLent s planes.now nodes.now result.planes.now result.nodes.now result.root }
 {
-    match g {
-        Given::Refused(k) => refuse(k, out),
-        Given::Solid(_) => refuse(0, out),
+    LentSolid {
+        planes: &planes[0..4 * s.planes],
+        nodes: &nodes[0..3 * s.nodes],
+        root: s.root,
     }
 }
 
-// The solid that a call gave, whose rows stand in tables, written as text; or its refusal, and a text of zeros.
-pub fn written(g: Given, planes: &[i64], nodes: &[u16], out: &mut [u8], work: &mut [i64]) -> Written
-    requires { WriteIn g planes.now nodes.now work.old }
-    ensures { WriteTold g planes.now nodes.now out.old out.new result }
+// The solid that a call gave, whose rows stand in tables, written as text.
+pub fn written(
+    s: Solid,
+    planes: &[i64],
+    nodes: &[u16],
+    out: &mut [u8],
+    work: &mut [i64],
+) -> Result<usize, Refusal>
+    requires { WriteIn s planes.now nodes.now work.old }
+    ensures { WriteTold s planes.now nodes.now out.old out.new (numbered result) }
 {
-    let Given::Solid(s) = g else {
-        return not_given(g, out);
-    };
-    solids::write(
-        &planes[0..4 * s.planes],
-        &nodes[0..3 * s.nodes],
-        s.root,
-        out,
-        work,
-    )
+    solids::write(&rows_of(s, planes, nodes), out, work)
 }

@@ -1,4 +1,3 @@
-pub mod Sizes
 pub mod Laws
 pub mod Box
 pub mod Sorted

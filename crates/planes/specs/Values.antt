@@ -1,9 +1,13 @@
 -- What the code's structs and enums stand for.
 --     plane, point, meeting   the four numbers of a struct
 --     side_is, side_sign      a side is a sign: front plus, on nought, back minus
+--     four_at                 entry i of a table, and the three after it
 --     fault_is                a fault of document 01 as the code's
+--     side_refusal            what a side is refused with: 4 for the plane, 10 for the point
 --     order_by                an order, by the two tests of which is before the other
-use Rattle.std.specs.Prelude.{Bool, true, false, ℤ}
+use Rattle.std.specs.Prelude.{Bool, cond, List, ℕ, ◌+◌, ℤ, pos, get_or}
+use Rattle.std.specs.declared.cmp.Ordering.{Ordering}
+use Rattle.std.specs.declared.cmp.Ordering.TheVariants.{Less, Equal, Greater}
 use Rattle.whole.specs.Vec.{V3, V4}
 use Rattle.whole.specs.Sign.{Sign, minus, nought, plus}
 use Rattle.scope.specs.Planes as scope
@@ -14,8 +18,9 @@ use Rattle.planes.specs.declared.Side.{Side}
 use Rattle.planes.specs.declared.Side.TheVariants.{Front, On, Back}
 use Rattle.planes.specs.declared.Fault.{Fault}
 use Rattle.planes.specs.declared.Fault.TheVariants.{OutOfRange, ZeroNormal, NotReduced, WrongSign}
-use Rattle.planes.specs.declared.Order.{Order}
-use Rattle.planes.specs.declared.Order.TheVariants.{Before, Same, After}
+use Rattle.planes.specs.declared.SideFault.{SideFault}
+use Rattle.planes.specs.declared.SideFault.TheVariants.{BadPlane, BadPoint}
+use Rattle.refusals.specs.declared.Refusal as refusal
 
 -- ---- numbers
 
@@ -33,6 +38,9 @@ point x = quad x.x x.y x.z x.w
 
 abbrev pub meeting : Meeting → V4 ℤ
 meeting m = quad m.x m.y m.z m.w
+
+abbrev pub four_at : List ℤ → ℕ → scope.Plane
+four_at t i = quad (get_or t i (pos 0)) (get_or t (i + 1) (pos 0)) (get_or t (i + 2) (pos 0)) (get_or t (i + 3) (pos 0))
 
 -- ---- sides
 
@@ -73,15 +81,12 @@ fault_of ZeroNormal = scope.zero_normal
 fault_of NotReduced = scope.not_reduced
 fault_of WrongSign = scope.wrong_sign
 
+abbrev pub side_refusal : SideFault → refusal.Refusal
+side_refusal (BadPlane f) = refusal.TheVariants.UnlawfulPlane
+side_refusal BadPoint = refusal.TheVariants.BadPoint
+
 -- ---- orders
 
 -- the first is before the second, or the second before the first, or neither
-abbrev pub order_by : Bool → Bool → Order
-order_by true b = Before
-order_by false true = After
-order_by false false = Same
-
-abbrev pub order_then : Order → Order → Order
-order_then Before t = Before
-order_then Same t = t
-order_then After t = After
+abbrev pub order_by : Bool → Bool → Ordering
+order_by b c = cond b Less (cond c Greater Equal)

@@ -3,25 +3,27 @@
 #![tactic(auto)]
 
 mod number;
-mod orders;
 mod signs;
 
-ghost use Rattle.std.specs.Prelude.{◌≡◌, eqb};
+ghost use Rattle.std.specs.Prelude.{◌≡◌, [], ◌∷◌, ◌+◌, ◌≤◌, length, eqb};
+ghost use Rattle.std.proofs.lemmas.List.Edits.{sets};
 ghost use Rattle.whole.specs.Tests.{◌and◌};
+ghost use Rattle.whole.specs.Vec.{dot4};
 ghost use Rattle.scope.specs.Planes.{lead, in_range, common as the-common, point_in_range, coincident as the-coincident, meet as the-meet};
-ghost use Rattle.planes.specs.Values.{quad, plane, point, meeting, side_is};
-ghost use Rattle.planes.specs.Bounds.{AxisIn, PointIn, TwoIn, ThreeIn};
+ghost use Rattle.planes.specs.Values.{quad, plane, point, meeting, side_is, four_at};
+ghost use Rattle.planes.specs.Bounds.{AxisIn, PointIn, SumIn, TwoIn, ThreeIn};
 ghost use Rattle.planes.specs.Promises.{PlaneMade, HalfSpaceMade, PointMade, SideTold, MeetTold, MeetSideTold, OrderTold, SameTold, CoincideTold};
 ghost use Rattle.planes.specs.Promises.{three_in_range, between as the-between};
 
-pub use number::{all_within, common, det3, minor, minor_zero, size, value, within};
-pub use orders::{compare, first_order};
+pub use number::{common, det3, minor, minor_zero, size, within};
+use refusals::Refusal;
 pub use signs::{first_sign, sign, times};
+use std::cmp::Ordering;
 
-// ---- the kinds, and the answers
+// ---- the kinds, and what may be wrong with them
 
-// A plane or a half-space (a,b,c,d).
-#[derive(Clone, Copy)]
+// A plane or a half-space (a,b,c,d). Planes are ordered by a, then b, c, d, as signed numbers.
+#[derive(Clone, Copy, Debug, PartialEq, Eq, PartialOrd, Ord)]
 pub struct Plane {
     pub a: i64,
     pub b: i64,
@@ -30,7 +32,7 @@ pub struct Plane {
 }
 
 // What may be wrong with a plane, in the order in which it is looked for.
-#[derive(Clone, Copy)]
+#[derive(Clone, Copy, Debug, PartialEq, Eq)]
 pub enum Fault {
     OutOfRange,
     ZeroNormal,
@@ -38,15 +40,8 @@ pub enum Fault {
     WrongSign,
 }
 
-// A plane, or what is wrong with the four numbers: 4 in every case.
-#[derive(Clone, Copy)]
-pub enum MadePlane {
-    Made(Plane),
-    Faulty(Fault),
-}
-
 // A point (x,y,z,w), meaning x/w, y/w, z/w.
-#[derive(Clone, Copy)]
+#[derive(Clone, Copy, Debug, PartialEq, Eq)]
 pub struct Point {
     pub x: i64,
     pub y: i64,
@@ -54,16 +49,15 @@ pub struct Point {
     pub w: i64,
 }
 
-// A point, or why the four numbers are refused: 10 in both cases.
-#[derive(Clone, Copy)]
-pub enum MadePoint {
-    Made(Point),
+// Why the four numbers of a point are refused, in the order in which it is looked for.
+#[derive(Clone, Copy, Debug, PartialEq, Eq)]
+pub enum PointFault {
     OutOfRange,
     OutOfBox,
 }
 
 // Where three planes meet: w is the determinant of their normals, and may be negative.
-#[derive(Clone, Copy)]
+#[derive(Clone, Copy, Debug, PartialEq, Eq)]
 pub struct Meeting {
     pub x: i64,
     pub y: i64,
@@ -71,76 +65,77 @@ pub struct Meeting {
     pub w: i64,
 }
 
-// A meeting; no one point, where the determinant is zero; or a plane out of range, which is 4.
-#[derive(Clone, Copy)]
-pub enum Met {
-    At(Meeting),
-    NoPoint,
-    Faulty(Fault),
-}
-
 // Positive is front, zero on, negative back.
-#[derive(Clone, Copy)]
+#[derive(Clone, Copy, Debug, PartialEq, Eq)]
 pub enum Side {
     Front,
     On,
     Back,
 }
 
-// A side; a plane out of range, which is 4; or a point out of range, which is 10.
-#[derive(Clone, Copy)]
-pub enum Sided {
-    Lies(Side),
+// Why a side is refused: for the plane, or else for the point.
+#[derive(Clone, Copy, Debug, PartialEq, Eq)]
+pub enum SideFault {
     BadPlane(Fault),
     BadPoint,
 }
 
-// The side of a meeting; no one point; or a plane out of range, which is 4.
-#[derive(Clone, Copy)]
-pub enum MeetSided {
-    Lies(Side),
-    NoPoint,
-    Faulty(Fault),
+// A plane is refused with 4, whatever is wrong with it.
+impl From<Fault> for Refusal {
+    ghost use Rattle.std.specs.Prelude.{◌≡◌};
+    ghost use Rattle.refusals.specs.declared.Refusal.TheVariants.{UnlawfulPlane};
+
+    ghost from_gives = { λ f r. r ≡ UnlawfulPlane };
+
+    fn from(_f: Fault) -> Refusal {
+        Refusal::UnlawfulPlane
+    }
 }
 
-// Whether one plane is before, the same as or after another.
-#[derive(Clone, Copy)]
-pub enum Order {
-    Before,
-    Same,
-    After,
+// A point is refused with 10.
+impl From<PointFault> for Refusal {
+    ghost use Rattle.std.specs.Prelude.{◌≡◌};
+    ghost use Rattle.refusals.specs.declared.Refusal.TheVariants.{BadPoint};
+
+    ghost from_gives = { λ f r. r ≡ BadPoint };
+
+    fn from(_f: PointFault) -> Refusal {
+        Refusal::BadPoint
+    }
 }
 
-// Whether two planes are one; or a plane out of range, which is 4.
-#[derive(Clone, Copy)]
-pub enum Coincide {
-    Yes,
-    No,
-    Faulty(Fault),
+// A side is refused with 4 for the plane, and with 10 for the point.
+impl From<SideFault> for Refusal {
+    ghost use Rattle.std.specs.Prelude.{◌≡◌};
+    ghost use Rattle.planes.specs.Values.{side_refusal};
+
+    ghost from_gives = { λ f r. r ≡ side_refusal f };
+
+    fn from(f: SideFault) -> Refusal {
+        match f {
+            SideFault::BadPlane(f) => Refusal::from(f),
+            SideFault::BadPoint => Refusal::BadPoint,
+        }
+    }
+}
+
+// A point is a meeting with a positive w.
+impl From<Point> for Meeting {
+    ghost use Rattle.std.specs.Prelude.{◌≡◌};
+
+    ghost from_gives = { λ x m. m ≡ record { x = x.x; y = x.y; z = x.z; w = x.w } };
+
+    fn from(x: Point) -> Meeting {
+        Meeting {
+            x: x.x,
+            y: x.y,
+            z: x.z,
+            w: x.w,
+        }
+    }
 }
 
 // ---- planes
-
-// Whether a, b, c and d are in range.
-pub fn in_range(a: i64, b: i64, c: i64, d: i64) -> bool
-    ensures { result ≡ in_range (quad a b c d) }
-{
-    all_within(a, b, c, Plane::MOST_ABC) && within(d, Plane::MOST_D)
-}
-
-// The sign of the first nonzero among a, b, c; On is a normal that is zero. d plays no part.
-pub fn lead(a: i64, b: i64, c: i64, d: i64) -> Side
-    ensures { result ≡ side_is (lead (quad a b c d)) }
-{
-    first_sign(sign(a), first_sign(sign(b), sign(c)))
-}
-
-// Whether the greatest common divisor of all four numbers is 1.
-pub fn reduced(a: i64, b: i64, c: i64, d: i64) -> bool
-    ensures { result ≡ eqb (the-common (quad a b c d)) 1 }
-{
-    common(size(a), common(size(b), common(size(c), size(d)))) == 1
-}
 
 impl Plane {
     pub const MOST_ABC: u64 = 1000;
@@ -148,117 +143,125 @@ impl Plane {
     pub const MOST_D: u64 = 100_000_000;
 
     // The plane (a,b,c,d) if it is lawful, else what is wrong with it: range, then zero normal, then not reduced, then wrong sign.
-    pub fn new(a: i64, b: i64, c: i64, d: i64) -> MadePlane
+    pub fn new(a: i64, b: i64, c: i64, d: i64) -> Result<Plane, Fault>
         ensures { PlaneMade a b c d result }
     {
-        if !in_range(a, b, c, d) {
-            return MadePlane::Faulty(Fault::OutOfRange);
+        let p = Plane::half_space(a, b, c, d)?;
+        if !p.reduced() {
+            return Err(Fault::NotReduced);
         }
-        let coprime = reduced(a, b, c, d);
-        match lead(a, b, c, d) {
-            Side::On => MadePlane::Faulty(Fault::ZeroNormal),
-            Side::Front => {
-                if coprime {
-                    MadePlane::Made(Plane { a, b, c, d })
-                } else {
-                    MadePlane::Faulty(Fault::NotReduced)
-                }
-            }
-            Side::Back => {
-                if coprime {
-                    MadePlane::Faulty(Fault::WrongSign)
-                } else {
-                    MadePlane::Faulty(Fault::NotReduced)
-                }
-            }
+        match p.lead() {
+            Side::Back => Err(Fault::WrongSign),
+            _ => Ok(p),
         }
     }
 
     // The half-space (a,b,c,d): range and a nonzero normal suffice.
-    pub fn half_space(a: i64, b: i64, c: i64, d: i64) -> MadePlane
+    pub fn half_space(a: i64, b: i64, c: i64, d: i64) -> Result<Plane, Fault>
         ensures { HalfSpaceMade a b c d result }
     {
-        if !in_range(a, b, c, d) {
-            return MadePlane::Faulty(Fault::OutOfRange);
+        let p = Plane { a, b, c, d };
+        if !p.ranged() {
+            return Err(Fault::OutOfRange);
         }
-        match lead(a, b, c, d) {
-            Side::On => MadePlane::Faulty(Fault::ZeroNormal),
-            Side::Front => MadePlane::Made(Plane { a, b, c, d }),
-            Side::Back => MadePlane::Made(Plane { a, b, c, d }),
+        match p.lead() {
+            Side::On => Err(Fault::ZeroNormal),
+            _ => Ok(p),
         }
     }
 
-    // Whether the numbers of the plane are in range.
+    // Whether a, b, c and d are in range.
+    #[tactic(auto, unfolding(scope::specs::Planes::in_range))]
     pub fn ranged(self) -> bool
         ensures { result ≡ in_range (plane self) }
     {
-        in_range(self.a, self.b, self.c, self.d)
+        within(self.a, Plane::MOST_ABC)
+            && within(self.b, Plane::MOST_ABC)
+            && within(self.c, Plane::MOST_ABC)
+            && within(self.d, Plane::MOST_D)
+    }
+
+    // The sign of the first nonzero among a, b, c; On is a normal that is zero. d plays no part.
+    #[tactic(auto, unfolding(scope::specs::Planes::lead))]
+    pub fn lead(self) -> Side
+        ensures { result ≡ side_is (lead (plane self)) }
+    {
+        first_sign(sign(self.a), first_sign(sign(self.b), sign(self.c)))
+    }
+
+    // Whether the greatest common divisor of all four numbers is 1.
+    #[tactic(auto, unfolding(scope::specs::Planes::common))]
+    pub fn reduced(self) -> bool
+        ensures { result ≡ eqb (the-common (plane self)) 1 }
+    {
+        common(
+            size(self.a),
+            common(size(self.b), common(size(self.c), size(self.d))),
+        ) == 1
     }
 
     // The side on which a point lies: the sign of ax + by + cz + dw, which is at most 4*10^18 in size. The plane is judged first, then
     // the point.
-    pub fn side(self, x: Point) -> Sided
+    pub fn side(self, x: Point) -> Result<Side, SideFault>
         ensures { SideTold self x result }
     {
         if !self.ranged() {
-            return Sided::BadPlane(Fault::OutOfRange);
+            return Err(SideFault::BadPlane(Fault::OutOfRange));
         }
         if !x.ranged() {
-            return Sided::BadPoint;
+            return Err(SideFault::BadPoint);
         }
-        Sided::Lies(sign(value(self.a, self.b, self.c, self.d, x.x, x.y, x.z, x.w)))
+        Ok(sign(self.sum_at(Meeting::from(x))))
     }
 
     // The order of two planes: by a, then b, c, d, as signed numbers.
-    pub fn order(self, q: Plane) -> Order
+    pub fn order(self, q: Plane) -> Ordering
         ensures { OrderTold self q result }
     {
-        first_order(
-            compare(self.a, q.a),
-            first_order(
-                compare(self.b, q.b),
-                first_order(compare(self.c, q.c), compare(self.d, q.d)),
-            ),
-        )
+        self.cmp(&q)
     }
 
     // Whether two planes have the same four numbers.
     pub fn same(self, q: Plane) -> bool
         ensures { SameTold self q result }
     {
-        match self.order(q) {
-            Order::Before => false,
-            Order::Same => true,
-            Order::After => false,
+        self == q
+    }
+
+    // The plane that stands in four entries of a table, from entry `at` on.
+    pub fn load(t: &[i64], at: usize) -> Plane
+        requires { at + 4 ≤ length t.now }
+        ensures { plane result ≡ four_at t.now at }
+    {
+        Plane {
+            a: t[at],
+            b: t[at + 1],
+            c: t[at + 2],
+            d: t[at + 3],
         }
+    }
+
+    // Puts the plane into four entries of a table, from entry `at` on.
+    pub fn store(self, t: &mut [i64], at: usize)
+        requires { at + 4 ≤ length t.old }
+        ensures { t.new ≡ sets t.old at (self.a ∷ self.b ∷ self.c ∷ self.d ∷ []) }
+    {
+        t[at] = self.a;
+        t[at + 1] = self.b;
+        t[at + 2] = self.c;
+        t[at + 3] = self.d;
+    }
+
+    // The sum ax + by + cz + dw of the plane at (x,y,z,w): four terms of at most 1.8*10^18, so at most 7.2*10^18.
+    pub fn sum_at(self, m: Meeting) -> i64
+        requires { SumIn self.a self.b self.c self.d m.x m.y m.z m.w }
+        ensures { result ≡ dot4 (plane self) (meeting m) }
+    {
+        self.a * m.x + self.b * m.y + self.c * m.z + self.d * m.w
     }
 }
 
 // ---- points
-
-// Whether x, y, z are in range, and w at least 1 and in range.
-pub fn point_in_range(x: i64, y: i64, z: i64, w: i64) -> bool
-    ensures { result ≡ point_in_range (quad x y z w) }
-{
-    all_within(x, y, z, Point::MOST_XYZ) && (0 < w && within(w, Point::MOST_W))
-}
-
-// Whether x/w lies strictly between -REACH and REACH. REACH*w is at most 3*10^14, and the sums at most 1.3*10^15.
-pub fn between(x: i64, w: i64) -> bool
-    requires { AxisIn x w }
-    ensures { result ≡ the-between x w }
-{
-    let most = Point::REACH * w;
-    0 < x + most && 0 < most - x
-}
-
-// Whether a point in range lies strictly between the sides of the box, on each axis.
-pub fn in_box(x: i64, y: i64, z: i64, w: i64) -> bool
-    requires { PointIn x y z w }
-    ensures { result ≡ the-between x w and the-between y w and the-between z w }
-{
-    between(x, w) && (between(y, w) && between(z, w))
-}
 
 impl Point {
     pub const MOST_XYZ: u64 = 1_000_000_000_000_000;
@@ -268,24 +271,46 @@ impl Point {
     pub const REACH: i64 = 30_000;
 
     // The point (x,y,z,w) if it is in range and strictly inside the box.
-    pub fn new(x: i64, y: i64, z: i64, w: i64) -> MadePoint
+    pub fn new(x: i64, y: i64, z: i64, w: i64) -> Result<Point, PointFault>
         ensures { PointMade x y z w result }
     {
-        if !point_in_range(x, y, z, w) {
-            return MadePoint::OutOfRange;
+        let p = Point { x, y, z, w };
+        if !p.ranged() {
+            return Err(PointFault::OutOfRange);
         }
-        if !in_box(x, y, z, w) {
-            return MadePoint::OutOfBox;
+        if !p.in_box() {
+            return Err(PointFault::OutOfBox);
         }
-        MadePoint::Made(Point { x, y, z, w })
+        Ok(p)
     }
 
-    // Whether the numbers of the point are in range.
+    // Whether x, y, z are in range, and w at least 1 and in range.
+    #[tactic(auto, unfolding(scope::specs::Planes::point_in_range))]
     pub fn ranged(self) -> bool
         ensures { result ≡ point_in_range (point self) }
     {
-        point_in_range(self.x, self.y, self.z, self.w)
+        within(self.x, Point::MOST_XYZ)
+            && within(self.y, Point::MOST_XYZ)
+            && within(self.z, Point::MOST_XYZ)
+            && (0 < self.w && within(self.w, Point::MOST_W))
     }
+
+    // Whether a point in range lies strictly between the sides of the box, on each axis.
+    pub fn in_box(self) -> bool
+        requires { PointIn self.x self.y self.z self.w }
+        ensures { result ≡ the-between self.x self.w and the-between self.y self.w and the-between self.z self.w }
+    {
+        between(self.x, self.w) && between(self.y, self.w) && between(self.z, self.w)
+    }
+}
+
+// Whether x/w lies strictly between -REACH and REACH. REACH*w is at most 3*10^14, and the sums at most 1.3*10^15.
+fn between(x: i64, w: i64) -> bool
+    requires { AxisIn x w }
+    ensures { result ≡ the-between x w }
+{
+    let most = Point::REACH * w;
+    0 < x + most && 0 < most - x
 }
 
 // ---- three planes
@@ -296,57 +321,65 @@ pub fn minors(p: Plane, q: Plane, r: Plane) -> Meeting
     ensures { meeting result ≡ the-meet (plane p) (plane q) (plane r) }
 {
     Meeting {
-        x: -det3(p.b, p.c, p.d, q.b, q.c, q.d, r.b, r.c, r.d),
-        y: det3(p.a, p.c, p.d, q.a, q.c, q.d, r.a, r.c, r.d),
-        z: -det3(p.a, p.b, p.d, q.a, q.b, q.d, r.a, r.b, r.d),
-        w: det3(p.a, p.b, p.c, q.a, q.b, q.c, r.a, r.b, r.c),
+        x: -det3((p.b, p.c, p.d), (q.b, q.c, q.d), (r.b, r.c, r.d)),
+        y: det3((p.a, p.c, p.d), (q.a, q.c, q.d), (r.a, r.c, r.d)),
+        z: -det3((p.a, p.b, p.d), (q.a, q.b, q.d), (r.a, r.b, r.d)),
+        w: det3((p.a, p.b, p.c), (q.a, q.b, q.c), (r.a, r.b, r.c)),
     }
 }
 
 // Whether three planes are in range.
-pub fn three_ranged(p: Plane, q: Plane, r: Plane) -> bool
+fn three_ranged(p: Plane, q: Plane, r: Plane) -> bool
     ensures { result ≡ three_in_range p q r }
 {
-    p.ranged() && (q.ranged() && r.ranged())
+    p.ranged() && q.ranged() && r.ranged()
 }
 
 // Where three planes meet: in one point if the determinant of their normals is not zero.
-pub fn meet(p: Plane, q: Plane, r: Plane) -> Met
+pub fn meet(p: Plane, q: Plane, r: Plane) -> Result<Option<Meeting>, Fault>
     ensures { MeetTold p q r result }
 {
     if !three_ranged(p, q, r) {
-        return Met::Faulty(Fault::OutOfRange);
+        return Err(Fault::OutOfRange);
     }
     let m = minors(p, q, r);
     if m.w == 0 {
-        return Met::NoPoint;
+        return Ok(None);
     }
-    Met::At(m)
+    Ok(Some(m))
 }
 
 // The side of h on which p, q and r meet: the signs of the two determinants are multiplied, and not the determinants. The 4x4 one is
 // the sum of h at the meeting, at most 2.4*10^18 in size.
-pub fn meet_side(p: Plane, q: Plane, r: Plane, h: Plane) -> MeetSided
+pub fn meet_side(p: Plane, q: Plane, r: Plane, h: Plane) -> Result<Option<Side>, Fault>
     ensures { MeetSideTold p q r h result }
 {
-    if !three_ranged(p, q, r) {
-        return MeetSided::Faulty(Fault::OutOfRange);
-    }
     if !h.ranged() {
-        return MeetSided::Faulty(Fault::OutOfRange);
+        return Err(Fault::OutOfRange);
     }
-    let m = minors(p, q, r);
-    if m.w == 0 {
-        return MeetSided::NoPoint;
-    }
-    let four = value(h.a, h.b, h.c, h.d, m.x, m.y, m.z, m.w);
-    MeetSided::Lies(times(sign(m.w), sign(four)))
+    let Some(m) = meet(p, q, r)? else {
+        return Ok(None);
+    };
+    Ok(Some(times(sign(m.w), sign(h.sum_at(m)))))
 }
 
 // ---- coincidence
 
-// Whether all six 2x2 minors of two planes are zero.
-pub fn all_minors_zero(p: Plane, q: Plane) -> bool
+// Whether two planes are the same one, facing either way, reduced or not: all six 2x2 minors are zero.
+pub fn coincident(p: Plane, q: Plane) -> Result<bool, Fault>
+    ensures { CoincideTold p q result }
+{
+    if !p.ranged() {
+        return Err(Fault::OutOfRange);
+    }
+    if !q.ranged() {
+        return Err(Fault::OutOfRange);
+    }
+    Ok(all_minors_zero(p, q))
+}
+
+#[tactic(auto, unfolding(scope::specs::Planes::coincident))]
+fn all_minors_zero(p: Plane, q: Plane) -> bool
     requires { TwoIn p q }
     ensures { result ≡ the-coincident (plane p) (plane q) }
 {
@@ -355,21 +388,4 @@ pub fn all_minors_zero(p: Plane, q: Plane) -> bool
             && (minor_zero(p.a, p.d, q.a, q.d)
                 && (minor_zero(p.b, p.c, q.b, q.c)
                     && (minor_zero(p.b, p.d, q.b, q.d) && minor_zero(p.c, p.d, q.c, q.d)))))
-}
-
-// Whether two planes are the same one, facing either way, reduced or not.
-pub fn coincident(p: Plane, q: Plane) -> Coincide
-    ensures { CoincideTold p q result }
-{
-    if !p.ranged() {
-        return Coincide::Faulty(Fault::OutOfRange);
-    }
-    if !q.ranged() {
-        return Coincide::Faulty(Fault::OutOfRange);
-    }
-    if all_minors_zero(p, q) {
-        Coincide::Yes
-    } else {
-        Coincide::No
-    }
 }

@@ -4,18 +4,17 @@ ghost use Rattle.whole.specs.Sign.{sgn};
 ghost use Rattle.planes.specs.Values.{side_is, side_then, side_times};
 
 use crate::Side;
+use std::cmp::Ordering;
 
 // The sign of a number, as a side.
 pub fn sign(s: i64) -> Side
     ensures { result ≡ side_is (sgn s) }
 {
-    if s < 0 {
-        return Side::Back;
+    match s.cmp(&0) {
+        Ordering::Less => Side::Back,
+        Ordering::Equal => Side::On,
+        Ordering::Greater => Side::Front,
     }
-    if s == 0 {
-        return Side::On;
-    }
-    Side::Front
 }
 
 // The first of two signs that is not zero.
@@ -23,9 +22,8 @@ pub fn first_sign(s: Side, t: Side) -> Side
     ensures { result ≡ side_then s t }
 {
     match s {
-        Side::Front => Side::Front,
         Side::On => t,
-        Side::Back => Side::Back,
+        _ => s,
     }
 }
 

@@ -13,6 +13,7 @@ use lib.Dec.{ltb}
 use lib.IntN.{ℤ}
 use lib.ListN.{length, length-append, get_or, get_elem?}
 use borrow.Author.Tests.{lt-ltb}
+use Rattle.std.specs.Prelude.{Option, Some, None}
 use Rattle.whole.specs.Tests.{differ, is_true}
 use Rattle.whole.specs.Members.{◌∈◌, here, there, in_left, in_right, elem_small}
 use Rattle.whole.specs.Sign.{Sign, minus, nought, plus}
@@ -27,8 +28,7 @@ use Rattle.planes.specs.Bounds.{PlaneIn, PointIn, in_range_in}
 use Rattle.tables.specs.Rows.{plane_at, entry_at}
 use Rattle.tables.specs.Promises.{SolidOf}
 use Rattle.points.specs.Promises.{StepIn, went, stepped, told}
-use Rattle.points.specs.declared.Went.{Went}
-use Rattle.points.specs.declared.Told.TheVariants as Told
+use Rattle.points.specs.declared.Place.TheVariants.{In, Out, On}
 use Rattle.tables.proofs.Flats.{flat_planes_length, flat_nodes_length, flat_plane, flat_entry}
 
 entries_size : (ps : List Plane) (n : ℕ) (t : Tree) → length (entries ps (post n t)) ≡ rows t
@@ -211,20 +211,20 @@ module _ {xs : List ℤ} {ns : List ℕ} {r : ℕ} {t : Tree} (X : Point) (s : S
     pub step_in : PointIn X.x X.y X.z X.w → StepIn xs ns c X
     step_in = parts_in (parts t X c low b)
 
-    module _ {j : Went} (h : j ≡ stepped xs ns c X) where
-      pub walk_on : j ≡ Went.On → Told.On ≡ told (reply t X)
+    module _ {j : Option ℕ} (h : j ≡ stepped xs ns c X) where
+      pub walk_on : j ≡ None → On ≡ told (reply t X)
       walk_on e = let q = parts t X c low b in go q (side q.p X) refl (sym e ∙ h ∙ stepped_is q)
         where
-          go : (q : Parts t X c) (σ : Sign) → side q.p X ≡ σ → Went.On ≡ went σ q.F q.B → Told.On ≡ told (reply t X)
+          go : (q : Parts t X c) (σ : Sign) → side q.p X ≡ σ → None ≡ went σ q.F q.B → On ≡ told (reply t X)
           go q plus f g = differ (cc)
           go q nought f g = sym (ap told (q.on f))
           go q minus f g = differ (cc)
 
-      module _ {d : ℕ} (e : j ≡ Went.To d) where
+      module _ {d : ℕ} (e : j ≡ Some d) where
         goes : (q : Parts t X c) → ((side q.p X ≡ plus) × (q.F ≡ d)) ⊎ ((side q.p X ≡ minus) × (q.B ≡ d))
         goes q = go (side q.p X) refl (sym e ∙ h ∙ stepped_is q)
           where
-            go : (σ : Sign) → side q.p X ≡ σ → Went.To d ≡ went σ q.F q.B → ((side q.p X ≡ plus) × (q.F ≡ d)) ⊎ ((side q.p X ≡ minus) × (q.B ≡ d))
+            go : (σ : Sign) → side q.p X ≡ σ → Some d ≡ went σ q.F q.B → ((side q.p X ≡ plus) × (q.F ≡ d)) ⊎ ((side q.p X ≡ minus) × (q.B ≡ d))
             go plus f g = inl (f, cc)
             go nought f g = differ (cc)
             go minus f g = inr (f, cc)
@@ -246,16 +246,16 @@ module _ {xs : List ℤ} {ns : List ℕ} {r : ℕ} {t : Tree} (X : Point) (s : S
         go (leaf m) k i e = (m, i, e)
         go (node p F B) k i e = absurd (omega (arith, within_table t X c b.base b.before b.after p F B k b.count i, s.lawful.few_rows))
 
-    pub walk_in : c ≡ 65535 → Told.In ≡ told (reply t X)
+    pub walk_in : c ≡ 65535 → In ≡ told (reply t X)
     walk_in e = go at_mark.0 at_mark.1 at_mark.2
       where
-        go : (m : Mark) → c ≡ number (mark m) → reply t X ≡ marked m → Told.In ≡ told (reply t X)
+        go : (m : Mark) → c ≡ number (mark m) → reply t X ≡ marked m → In ≡ told (reply t X)
         go IN i f = sym (ap told f)
         go OUT i f = absurd (omega arith)
 
-    pub walk_out : (c ≡ 65535 → ⊥) → Told.Out ≡ told (reply t X)
+    pub walk_out : (c ≡ 65535 → ⊥) → Out ≡ told (reply t X)
     walk_out n = go at_mark.0 at_mark.1 at_mark.2
       where
-        go : (m : Mark) → c ≡ number (mark m) → reply t X ≡ marked m → Told.Out ≡ told (reply t X)
+        go : (m : Mark) → c ≡ number (mark m) → reply t X ≡ marked m → Out ≡ told (reply t X)
         go IN i f = absurd (n i)
         go OUT i f = sym (ap told f)

@@ -1,33 +1,29 @@
 -- No second answer meets the promise of the public call: `tells_unique`, one answer, by the theory's `point_unique`, and one work table.
-use Rattle.std.specs.Prelude.{◌≡◌, refl, List, ℕ, ℤ}
+use Rattle.std.specs.Prelude.{◌≡◌, refl, List, ℕ, ℤ, Result, Ok, Err}
 use Rattle.std.proofs.Common.{sym, ap, ◌∙◌}
-use Rattle.whole.specs.Tests.{differ}
+use Rattle.refusals.specs.Numbers.{numbered, numbered_unique}
+use Rattle.refusals.specs.declared.Refusal.{Refusal}
 use Rattle.scope.specs.Planes.{Point}
+use Rattle.scope.specs.Solids.{Reply}
+use Rattle.scope.specs.Answers.{Answer, given, refused}
 use Rattle.theory.specs.Answers.{point_unique}
 use Rattle.theory.specs.Text.Lent.{lent}
-use Rattle.points.specs.Promises.{told_answer, Tells}
-use Rattle.points.specs.declared.Told.{Told}
-use Rattle.points.specs.declared.Told.TheVariants.{In, Out, On, Refused}
+use Rattle.points.specs.Promises.{told, told_answer, Tells}
+use Rattle.points.specs.declared.Place.{Place}
+use Rattle.points.specs.declared.Place.TheVariants.{In, Out, On}
 
--- an answer stands for one case of the enum
-same_told : (a b : Told) → told_answer a ≡ told_answer b → a ≡ b
-same_told In In e = refl
-same_told In Out e = differ (cc)
-same_told In On e = differ (cc)
-same_told In (Refused k) e = differ (cc)
-same_told Out In e = differ (cc)
-same_told Out Out e = refl
-same_told Out On e = differ (cc)
-same_told Out (Refused k) e = differ (cc)
-same_told On In e = differ (cc)
-same_told On Out e = differ (cc)
-same_told On On e = refl
-same_told On (Refused k) e = differ (cc)
-same_told (Refused k) In e = differ (cc)
-same_told (Refused k) Out e = differ (cc)
-same_told (Refused k) On e = differ (cc)
-same_told (Refused k) (Refused l) e = let f : k ≡ l = cc in ap Refused f
+-- an answer from what it stands for
+abbrev answered : Answer Reply → Result Place ℕ
+answered (given r) = Ok (told r)
+answered (refused k) = Err k
+
+answered_back : (a : Result Place ℕ) → answered (told_answer a) ≡ a
+answered_back (Ok In) = refl
+answered_back (Ok Out) = refl
+answered_back (Ok On) = refl
+answered_back (Err k) = refl
 
 module _ {xs : List ℤ} {ns : List ℕ} {r : ℕ} {w u v : List ℤ} where
-  pub tells_unique : {X : Point} {a b : Told} → Tells xs ns r X w u a → Tells xs ns r X w v b → (a ≡ b) × (u ≡ v)
-  tells_unique {X} {a} {b} h k = (same_told a b (point_unique (lent xs ns r) X h.answer k.answer), h.zeros ∙ sym k.zeros)
+  pub tells_unique : {X : Point} {a b : Result Place Refusal} → Tells xs ns r X w u (numbered a) → Tells xs ns r X w v (numbered b) → (a ≡ b) × (u ≡ v)
+  tells_unique {X} {a} {b} h k =
+      (numbered_unique (sym (answered_back (numbered a)) ∙ ap answered (point_unique (lent xs ns r) X h.answer k.answer) ∙ answered_back (numbered b)), h.zeros ∙ sym k.zeros)

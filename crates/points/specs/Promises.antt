@@ -1,9 +1,9 @@
--- What the functions promise. The enums stand for document 01's numbers and values.
+-- What the functions promise. An answer stands for document 01's value, or for its number of the refusal.
 --     SideIn, StepIn, WalkIn     what the functions are given
 --     went, stepped              where a walk goes
 --     told, Walked               the walk, of any tree that has the tables
---     number_of, told_answer, Tells   the public call
-use Rattle.std.specs.Prelude.{◌≡◌, List, ℕ, ◌+◌, ◌*◌, ◌<◌, ℤ, pos, length, get_or, replicate}
+--     told_answer, Tells         the public call
+use Rattle.std.specs.Prelude.{◌≡◌, List, ℕ, ◌+◌, ◌*◌, ◌<◌, ℤ, pos, length, get_or, replicate, Option, Some, None, Result, Ok, Err}
 use Rattle.whole.specs.Sign.{Sign, minus, nought, plus}
 use Rattle.scope.specs.Planes.{Point, side}
 use Rattle.scope.specs.Solids.{IN, OUT, Tree, Reply, marked, ON, reply}
@@ -11,9 +11,7 @@ use Rattle.scope.specs.Answers.{Answer, given, refused, PointAnswer}
 use Rattle.theory.specs.Text.Lent.{lent}
 use Rattle.planes.specs.Bounds.{PlaneIn, PointIn}
 use Rattle.tables.specs.Rows.{plane_at}
-use Rattle.tables.specs.declared.Judgement as Judgement
-use Rattle.points.specs.declared.Told as Told
-use Rattle.points.specs.declared.Went as Went
+use Rattle.points.specs.declared.Place.{Place}
 use Rattle.tables.specs.Promises.{SolidOf}
 
 -- a row of the planes, and a point, within the limits of a side's sum
@@ -28,12 +26,12 @@ pub record StepIn (xs : List ℤ) (ns : List ℕ) (c : ℕ) (X : Point) : Type 0
   pub side_in : SideIn xs (get_or ns (3 * c) 0) X
 
 -- where a walk goes: to the front code, nowhere, or to the back code
-abbrev pub went : Sign → ℕ → ℕ → Went.Went
-went plus f b = Went.TheVariants.To f
-went nought f b = Went.TheVariants.On
-went minus f b = Went.TheVariants.To b
+abbrev pub went : Sign → ℕ → ℕ → Option ℕ
+went plus f b = Some f
+went nought f b = None
+went minus f b = Some b
 
-abbrev pub stepped : List ℤ → List ℕ → ℕ → Point → Went.Went
+abbrev pub stepped : List ℤ → List ℕ → ℕ → Point → Option ℕ
 stepped xs ns c X = went (side (plane_at xs (get_or ns (3 * c) 0)) X) (get_or ns (3 * c + 1) 0) (get_or ns (3 * c + 2) 0)
 
 -- what a walk is given: the tables of some lawful tree, and a point in range
@@ -43,28 +41,23 @@ pub record WalkIn (xs : List ℤ) (ns : List ℕ) (r : ℕ) (X : Point) : Type 0
   pub point_in : PointIn X.x X.y X.z X.w
 
 -- a reply as the code has it
-abbrev pub told : Reply → Told.Told
-told (marked IN) = Told.TheVariants.In
-told (marked OUT) = Told.TheVariants.Out
-told ON = Told.TheVariants.On
+abbrev pub told : Reply → Place
+told (marked IN) = Place.In
+told (marked OUT) = Place.Out
+told ON = Place.On
 
 -- the reply of the tree that has these tables
-pub record Walked (xs : List ℤ) (ns : List ℕ) (r : ℕ) (X : Point) (a : Told.Told) : Type 0 where
+pub record Walked (xs : List ℤ) (ns : List ℕ) (r : ℕ) (X : Point) (a : Place) : Type 0 where
   pub exact : (t : Tree) → SolidOf xs ns r t → a ≡ told (reply t X)
 
--- the number of a refusal; 0 for a solid that is sound, which is not asked
-abbrev pub number_of : Judgement.Judgement → Told.Told
-number_of (Judgement.TheVariants.Sound s) = Told.TheVariants.Refused 0
-number_of (Judgement.TheVariants.Refused k l) = Told.TheVariants.Refused k
-
 -- IN, OUT or ON, or the number of the refusal
-abbrev pub told_answer : Told.Told → Answer Reply
-told_answer Told.TheVariants.In = given (marked IN)
-told_answer Told.TheVariants.Out = given (marked OUT)
-told_answer Told.TheVariants.On = given ON
-told_answer (Told.TheVariants.Refused k) = refused k
+abbrev pub told_answer : Result Place ℕ → Answer Reply
+told_answer (Ok Place.In) = given (marked IN)
+told_answer (Ok Place.Out) = given (marked OUT)
+told_answer (Ok Place.On) = given ON
+told_answer (Err k) = refused k
 
 -- `point`: the answer, and a work table of zeros whatever it is
-pub record Tells (xs : List ℤ) (ns : List ℕ) (r : ℕ) (X : Point) (w w' : List ℤ) (a : Told.Told) : Type 0 where
+pub record Tells (xs : List ℤ) (ns : List ℕ) (r : ℕ) (X : Point) (w w' : List ℤ) (a : Result Place ℕ) : Type 0 where
   pub answer : PointAnswer (length w) (lent xs ns r) X (told_answer a)
   pub zeros : w' ≡ replicate (length w) (pos 0)

@@ -3,29 +3,21 @@
 
 ghost use Rattle.std.specs.Prelude.{◌≡◌, ◌+◌, ◌*◌, ◌-◌, ◌<◌};
 ghost use Rattle.scope.specs.Planes.{side};
-ghost use Rattle.planes.specs.Values.{quad, point, side_is};
+ghost use Rattle.refusals.specs.Numbers.{numbered};
+ghost use Rattle.planes.specs.Values.{point, side_is};
 ghost use Rattle.tables.specs.Rows.{plane_at};
-ghost use Rattle.points.specs.Promises.{SideIn, StepIn, stepped, WalkIn, Walked, number_of, Tells};
+ghost use Rattle.points.specs.Promises.{SideIn, StepIn, stepped, WalkIn, Walked, Tells};
 
-use planes::{MadePoint, Point, Side};
-use tables::{Judgement, Solid, judge, row};
+use planes::{Meeting, Point, Side};
+use refusals::Refusal;
+use tables::{LentSolid, Solid, judge, row};
 
-// ---- the answers
-
-// Where a point lies, or the number that refuses the call.
-#[derive(Clone, Copy)]
-pub enum Told {
+// Where a point lies.
+#[derive(Clone, Copy, Debug, PartialEq, Eq)]
+pub enum Place {
     In,
     Out,
     On,
-    Refused(u8),
-}
-
-// A step of the walk: the point lies on the plane met, or the code of the side that it lies on.
-#[derive(Clone, Copy)]
-pub enum Went {
-    On,
-    To(u16),
 }
 
 // ---- the walk of a point
@@ -35,74 +27,49 @@ fn side_at(planes: &[i64], i: usize, x: Point) -> Side
     requires { SideIn planes.now i (point x) }
     ensures { result ≡ side_is (side (plane_at planes.now i) (point x)) }
 {
-    let p = row(planes, i);
-    planes::sign(planes::value(p.a, p.b, p.c, p.d, x.x, x.y, x.z, x.w))
+    planes::sign(row(planes, i).sum_at(Meeting::from(x)))
 }
 
-// Where the walk goes from the row of a code: to its front code, to its back code, or no further.
-fn step(planes: &[i64], nodes: &[u16], code: u16, x: Point) -> Went
-    requires { StepIn planes.now nodes.now code (point x) }
-    ensures { result ≡ stepped planes.now nodes.now code (point x) }
+// The code that the walk goes to from the row of a code: its front code or its back code, or none where the point lies on its plane.
+fn step(s: &LentSolid, code: u16, x: Point) -> Option<u16>
+    requires { StepIn s.now.planes.now s.now.nodes.now code (point x) }
+    ensures { result ≡ stepped s.now.planes.now s.now.nodes.now code (point x) }
 {
     let at = 3 * (code as usize);
-    let p = nodes[at] as usize;
-    let front = nodes[at + 1];
-    let back = nodes[at + 2];
-    match side_at(planes, p, x) {
-        Side::Front => Went::To(front),
-        Side::On => Went::On,
-        Side::Back => Went::To(back),
+    match side_at(s.planes, s.nodes[at] as usize, x) {
+        Side::Front => Some(s.nodes[at + 1]),
+        Side::On => None,
+        Side::Back => Some(s.nodes[at + 2]),
     }
 }
 
 // The walk from the root code to a mark, or to a plane that the point lies on. A row's codes are marks or rows before it.
-fn walk(planes: &[i64], nodes: &[u16], root: u16, x: Point) -> Told
-    requires { WalkIn planes.now nodes.now root (point x) }
-    ensures { Walked planes.now nodes.now root (point x) result }
+fn walk(s: &LentSolid, x: Point) -> Place
+    requires { WalkIn s.now.planes.now s.now.nodes.now s.now.root (point x) }
+    ensures { Walked s.now.planes.now s.now.nodes.now s.now.root (point x) result }
 {
-    let mut code = root;
+    let mut code = s.root;
     while code < Solid::OUT {
-        let Went::To(next) = step(planes, nodes, code, x) else {
-            return Told::On;
+        let Some(next) = step(s, code, x) else {
+            return Place::On;
         };
         code = next;
     }
     if code == Solid::IN {
-        return Told::In;
-    }
-    Told::Out
-}
-
-// The number of a refusal. A solid that is sound has none: it is not asked for, and the number is 0.
-fn number(j: Judgement) -> Told
-    ensures { result ≡ number_of j }
-{
-    match j {
-        Judgement::Refused(k, _) => Told::Refused(k),
-        Judgement::Sound(_) => Told::Refused(0),
+        Place::In
+    } else {
+        Place::Out
     }
 }
 
-// Where the point (x,y,z,w) lies: 8 for a work table that is too short, the solid's number, 10 for the point. ON as soon as the walk meets
-// a plane that the point lies on. The work table is left as zeros.
-pub fn point(
-    planes: &[i64],
-    nodes: &[u16],
-    root: u16,
-    x: i64,
-    y: i64,
-    z: i64,
-    w: i64,
-    work: &mut [i64],
-) -> Told
-    ensures { Tells planes.now nodes.now root (quad x y z w) work.old work.new result }
+// Where the point x lies, which may have any numbers: 8 for a work table that is too short, the solid's number, 10 for the point. ON as
+// soon as the walk meets a plane that the point lies on. The work table is left as zeros.
+pub fn point(s: &LentSolid, x: Point, work: &mut [i64]) -> Result<Place, Refusal>
+    ensures { Tells s.now.planes.now s.now.nodes.now s.now.root (point x) work.old work.new (numbered result) }
 {
-    let j = judge(planes, nodes, root, work);
-    let Judgement::Sound(_) = j else {
-        return number(j);
+    judge(s, work)?;
+    let Ok(p) = Point::new(x.x, x.y, x.z, x.w) else {
+        return Err(Refusal::BadPoint);
     };
-    let MadePoint::Made(p) = Point::new(x, y, z, w) else {
-        return Told::Refused(10);
-    };
-    walk(planes, nodes, root, p)
+    Ok(walk(s, p))
 }

@@ -86,17 +86,6 @@ read_put t i k v l =
     let w = get_d_sets_at vs t (5 * i) 4 (5 * i + 4) (omega arith) (omega arith) (omega arith) in
     λ j. a j ++ corner (number (n j)) (quad (x j) (y j) (z j) (w j)) ∷ []
 
--- ---- copies
-
--- one number more
-pub copied_more : (f t : List ℤ) (n : ℕ) (v : ℤ) → n < length t → v ≡ get_or f n (pos 0) → ((j : ℕ) → j < n → get_or t j (pos 0) ≡ get_or f j (pos 0))
-    → (j : ℕ) → j < n + 1 → get_or (set t n v) j (pos 0) ≡ get_or f j (pos 0)
-copied_more f t n v l e h j b = go (n - j) refl
-  where
-    go : (d : ℕ) → n - j ≡ d → get_or (set t n v) j (pos 0) ≡ get_or f j (pos 0)
-    go zero q = let p : j ≡ n = omega arith in rw p (get_or-set_same t n v (pos 0) l ∙ e)
-    go (suc d) q = get_or-set_other t n j v (pos 0) (λ p. omega arith) ∙ h j (omega arith)
-
 -- ---- indices
 
 -- an index that is one is the number itself

@@ -1,18 +1,16 @@
 -- The clip of the polygon in a table: what its corners put out are the corners of document 01's clip.
---     same_not_gone .. cut_count   the variants of `Clipped` told apart: each is asked here, where nothing else is in sight, and cited where much is
 --     get_d_read, indices_length, indices_at   the corners and indices of a table, by their place
 --     module over `ClipIn`: what the functions of a clip are given, and what their answers say
 --     clipped_polygon   after a clip the table holds the polygon of one clip more
 use mathlib.Core.Path.{◌≡◌, refl, sym, ap, subst, ◌∙◌}
-use mathlib.Core.Bool.{true}
+use mathlib.Core.Bool.{Bool, true, false}
 use mathlib.Core.List.{List, [], ◌∷◌, ◌++◌, map}
 use Prim.Native.Nat.{ℕ, zero, suc, ◌-◌, ◌*◌, ◌≤◌, ◌<◌}
 use native.Mathlib.Omega.{arith}
 use lib.Dec.{T}
 use lib.IntN.{ℤ, pos}
-use lib.ListN.{length, get_or, length-append, get_or-append}
-use lib.Seq.{get_or_at}
-use Rattle.whole.specs.Tests.{differ}
+use lib.ListN.{length, get_or, take, drop, length-append, length-drop, get_or-append}
+use lib.Seq.{get_or_at, get_or-take, length-take-le}
 use Rattle.whole.specs.Sign.{Sign, plus, sgn}
 use Rattle.whole.specs.Lists.{Each, Each.none, Each.◌and◌, each_app, each_map, map_length}
 use Rattle.scope.specs.Planes.{Plane, at, in_range}
@@ -20,38 +18,15 @@ use Rattle.scope.specs.Section as scope
 use Rattle.theory.specs.Section.{Corner, corner, index, vertex, corners, corners_length, corners_index, corner_bounds_at, Upright, bound_side, clip_index, clips_snoc, each_at, at_each, indices_up, indices_few}
 use Rattle.theory.specs.Section.{Sized, prev_to, put_to, corner_side, signal_at, put_corner, put_last, clip_corners, clip_all_front, clip_no_front}
 use Rattle.theory.specs.Section.Index.{prior, next, prior_less, next_less, side_at, clip_to, clip_to_all}
-use Rattle.planes.specs.Values.{plane}
+use Rattle.planes.specs.Values.{plane, side_sign}
 use Rattle.planes.specs.Bounds.{MeetingIn, in_range_in}
 use Rattle.planes.specs.declared.Plane as struct
-use Rattle.polygons.specs.Values.{sign_of}
+use Rattle.planes.specs.declared.Side.{Side}
+use Rattle.planes.specs.declared.Side.TheVariants.{On}
 use Rattle.polygons.specs.Tables.{look, corner_at, read, indices, said_at, last_to, put_all}
-use Rattle.polygons.specs.Asked.{Found, Region, Polygon, side_of, SideIn, SidesIn, Looked, EmitIn, Emitted, ClipIn, clip_of, ClippedOn}
-use Rattle.polygons.specs.declared.Clipped.TheVariants.{Same, Cut, Gone}
-use Rattle.polygons.proofs.Rules.{sign_back, code_small}
+use Rattle.polygons.specs.Asked.{Region, Polygon, side_of, SideIn, Looked, EmitIn, Emitted, ClipIn, clip_of, ClippedOn}
+use Rattle.polygons.proofs.Rules.{sign_back}
 use Rattle.polygons.proofs.Cells.{read_length, read_same, read_none}
-
--- ---- what a clip says, told apart
-
-pub same_not_gone : {A : Type 0} → Same ≡ Gone → A
-same_not_gone e = differ (cc)
-
-pub same_not_cut : {A : Type 0} {m : ℕ} → Same ≡ Cut m → A
-same_not_cut e = differ (cc)
-
-pub gone_not_same : {A : Type 0} → Gone ≡ Same → A
-gone_not_same e = differ (cc)
-
-pub gone_not_cut : {A : Type 0} {m : ℕ} → Gone ≡ Cut m → A
-gone_not_cut e = differ (cc)
-
-pub cut_not_same : {A : Type 0} {m : ℕ} → Cut m ≡ Same → A
-cut_not_same e = differ (cc)
-
-pub cut_not_gone : {A : Type 0} {m : ℕ} → Cut m ≡ Gone → A
-cut_not_gone e = differ (cc)
-
-pub cut_count : {m n : ℕ} → Cut m ≡ Cut n → m ≡ n
-cut_count e = cc
 
 -- ---- a table's corners, by their place
 
@@ -144,9 +119,6 @@ module _ (s : Plane) (hs : List ℤ) (width k : ℕ) (t : List ℤ) (n : ℕ) (o
   pub clip_n : n ≤ 133
   clip_n = omega (arith, indices_few s a.region.normal a.gs plane_of is a.polygon.from, indices_length t n, a.few)
 
-  pub clip_found : Found hs width k
-  clip_found = a.region.found k a.k_below
-
   clipped_from : map plane_of clipped ≡ scope.clips s (a.gs ++ plane_of k ∷ []) (scope.start (scope.way s))
   clipped_from = clip_index s plane_of k is ∙ ap (scope.clip s (plane_of k)) a.polygon.from ∙ sym (clips_snoc s a.gs (plane_of k) (scope.start (scope.way s)))
 
@@ -162,6 +134,24 @@ module _ (s : Plane) (hs : List ℤ) (width k : ℕ) (t : List ℤ) (n : ℕ) (o
   vertex_in : (i : ℕ) → i < n → MeetingIn (vertex (corner_at t i))
   vertex_in i l = polygon_vertex s hs width a.top a.gs a.region t n a.polygon i l
 
+  -- ---- left in the first table
+
+  on_same : clipped ≡ is → ClippedOn s plane_of k t n t n
+  on_same e = record { room = a.polygon.room; held = a.polygon.held ∙ ap (corners s plane_of) (sym e) }
+
+  on_gone : clipped ≡ [] → ClippedOn s plane_of k t n t 0
+  unfolding corners
+  on_gone e = record { room = omega arith; held = read_none t ∙ ap (corners s plane_of) (sym e) }
+
+  -- what was put out into u, copied over the first corners
+  on_cut : (u : List ℤ) (m : ℕ) → 675 ≤ length u → m ≤ 134 → read u m ≡ corners s plane_of clipped → ClippedOn s plane_of k t n (take (5 * m) u ++ drop (5 * m) t) m
+  on_cut u m b l q = record {
+    room = omega (arith, a.room, length-append (take (5 * m) u) (drop (5 * m) t), length-take-le (5 * m) u (omega arith), length-drop (5 * m) t);
+    held = read_same (take (5 * m) u ++ drop (5 * m) t) u m (λ j i. get_or-append (take (5 * m) u) (drop (5 * m) t) (pos 0) j (omega (arith, length-take-le (5 * m) u (omega arith))) ∙ get_or-take (5 * m) u j (pos 0) i) ∙ q;
+  }
+
+  -- ---- by the sides
+
   module _ (h : struct.Plane) (e : plane h ≡ plane_of k) where
     pub clip_side : (i : ℕ) → i < n → SideIn h t i
     clip_side i l = record {
@@ -170,87 +160,72 @@ module _ (s : Plane) (hs : List ℤ) (width k : ℕ) (t : List ℤ) (n : ℕ) (o
       vertex_in = vertex_in i l;
     }
 
-    pub clip_sides : (sides : List ℕ) → n ≤ length sides → SidesIn h t n sides
-    clip_sides sides l = record { each = clip_side; room = l; few = omega (arith, clip_n) }
+    side_there : (i : ℕ) → i < n → side_of h t i ≡ corner_side s plane_of k (get_or cs i d)
+    side_there i l = (λ j. sgn (at (e j) (vertex (sym (corner_is i l) j))))
 
-    side_is : (i : ℕ) → i < n → side_of h t i ≡ corner_side s plane_of k (get_or cs i d)
-    side_is i l = (λ j. sgn (at (e j) (vertex (sym (corner_is i l) j))))
+    pub clip_same : ((i : ℕ) → i < n → side_of h t i ≡ plus) → ClippedOn s plane_of k t n t n
+    clip_same f = on_same (clip_all_front s plane_of k d is upright (λ i b. let c : i < n = omega (arith, indices_length t n) in sym (side_there i c) ∙ f i c))
 
-    pub clip_same : ((i : ℕ) → i < n → side_of h t i ≡ plus) → clipped ≡ is
-    clip_same f = clip_all_front s plane_of k d is upright (λ i b. let c : i < n = omega (arith, indices_length t n) in sym (side_is i c) ∙ f i c)
-
-    module _ (sides : List ℕ) (m : ℕ) (l : Looked h t n sides m) where
-      pub clip_gone : m ≡ 0 → clipped ≡ []
-      clip_gone q = clip_no_front s plane_of k d is upright (λ i b g. let c : i < n = omega (arith, indices_length t n) in l.none q i c (side_is i c ∙ g))
+    module _ (sides : List Side) (q : length sides ≡ n) (r : Bool) (l : Looked h t sides r) where
+      pub clip_gone : r ≡ false → ClippedOn s plane_of k t n t 0
+      clip_gone e = on_gone (clip_no_front s plane_of k d is upright (λ i b g. let c : i < n = omega (arith, indices_length t n) in l.none e i (omega arith) (side_there i c ∙ g)))
 
       -- the loop by the sides is the loop by the corners
-      seen : (i : ℕ) → i < n → sign_of (get_or sides i 0) ≡ corner_side s plane_of k (get_or cs i d)
-      seen i b = ap sign_of (l.each i b) ∙ sign_back (side_of h t i) ∙ side_is i b
+      seen : (i : ℕ) → i < length sides → side_sign (get_or sides i On) ≡ corner_side s plane_of k (get_or cs i d)
+      seen i b = ap side_sign (l.each i b) ∙ sign_back (side_of h t i) ∙ side_there i (omega arith)
 
-      count : length cs ≡ n
-      count = corners_length s plane_of is ∙ indices_length t n
+      count : length cs ≡ length sides
+      count = corners_length s plane_of is ∙ indices_length t n ∙ sym q
 
-      said_is : (i : ℕ) → i < n → said_at sides n i ≡ signal_at s plane_of k d cs i
+      said_is : (i : ℕ) → i < length sides → said_at sides i ≡ signal_at s plane_of k d cs i
       said_is i b =
+          let n = length sides in
           let x = seen (prior n i) (prior_less n i b) ∙ ap (λ n. corner_side s plane_of k (get_or cs (prior n i) d)) (sym count) in
           let y = seen i b in
           let z = seen (next n i) (next_less n i b) ∙ ap (λ n. corner_side s plane_of k (get_or cs (next n i) d)) (sym count) in
           λ j. scope.table (x j) (y j) (z j)
 
-      last_is : (p i : ℕ) → i ≤ n → last_to sides t n p i ≡ prev_to s plane_of k d p cs i
+      corner_here : (i : ℕ) → i < length sides → corner_at t i ≡ get_or cs i d
+      corner_here i b = sym (corner_is i (omega arith))
+
+      last_is : (p i : ℕ) → i ≤ length sides → last_to sides t p i ≡ prev_to s plane_of k d p cs i
       unfolding last_to prev_to
       last_is p zero b = refl
-      last_is p (suc i) b = let x = said_is i b in let y = last_is p i (omega arith) in let z = sym (corner_is i b) in λ j. put_last (x j) (y j) (z j)
+      last_is p (suc i) b = let x = said_is i b in let y = last_is p i (omega arith) in let z = corner_here i b in λ j. put_last (x j) (y j) (z j)
 
-      put_is : (p i : ℕ) → i ≤ n → put_all s plane_of k sides t n p i ≡ put_to s plane_of k d p cs i
+      put_is : (p i : ℕ) → i ≤ length sides → put_all s plane_of k sides t p i ≡ put_to s plane_of k d p cs i
       unfolding put_all put_to
       put_is p zero b = refl
       put_is p (suc i) b =
           let w = put_is p i (omega arith) in
           let x = said_is i b in
           let y = last_is p i (omega arith) in
-          let z = sym (corner_is i b) in
+          let z = corner_here i b in
           λ j. w j ++ put_corner s plane_of k (x j) (y j) (z j)
 
-      put_clip : put_all s plane_of k sides t n (last_to sides t n 0 n) n ≡ corners s plane_of clipped
+      put_clip : put_all s plane_of k sides t (last_to sides t 0 (length sides)) (length sides) ≡ corners s plane_of clipped
       put_clip =
+          let n = length sides in
           let x = last_is 0 n (omega arith) in
-          (λ j. put_all s plane_of k sides t n (x j) n) ∙ put_is (prev_to s plane_of k d 0 cs n) n (omega arith) ∙ (λ j. put_to s plane_of k d (prev_to s plane_of k d 0 cs (sym count j)) cs (sym count j))
+          (λ j. put_all s plane_of k sides t (x j) n) ∙ put_is (prev_to s plane_of k d 0 cs n) n (omega arith) ∙ (λ j. put_to s plane_of k d (prev_to s plane_of k d 0 cs (sym count j)) cs (sym count j))
           ∙ clip_corners s plane_of k d is upright 0
 
-      put_few : length (put_all s plane_of k sides t n (last_to sides t n 0 n) n) ≤ 134
+      put_few : length (put_all s plane_of k sides t (last_to sides t 0 (length sides)) (length sides)) ≤ 134
       put_few = omega (arith, ap length put_clip, corners_length s plane_of clipped, clipped_few)
 
-      pub clip_emit : n ≤ length sides → EmitIn s hs width k t n sides out
-      clip_emit b = record {
+      pub clip_emit : EmitIn s hs width k t sides out
+      clip_emit = record {
         top = a.top;
         region = a.region;
         k_below = a.k_below;
-        below = a.polygon.below;
-        corner_room = a.polygon.room;
-        codes = record { room = b; small = λ i c. rw (l.each i c) (code_small (side_of h t i)) };
+        below = λ i b. a.polygon.below i (omega arith);
+        corner_room = omega (arith, a.polygon.room);
         room = a.out_room;
         few = put_few;
       }
 
-      pub clip_cut : (out' : List ℤ) (r : ℕ) → Emitted s plane_of k t n sides out' r → (r ≤ 134) × (read out' r ≡ corners s plane_of clipped)
-      clip_cut out' r q = (omega (arith, q.count, put_few), q.read_is ∙ put_clip)
-
-      -- the same at a number that is the count
-      pub clip_cut_at : (out' : List ℤ) (r : ℕ) → Emitted s plane_of k t n sides out' r → (m : ℕ) → r ≡ m → (m ≤ 134) × (read out' m ≡ corners s plane_of clipped)
-      clip_cut_at out' r q m e = subst (λ m. (m ≤ 134) × (read out' m ≡ corners s plane_of clipped)) e (clip_cut out' r q)
-
-  -- ---- left in the first table
-
-  pub on_same : clipped ≡ is → ClippedOn s plane_of k t n t n
-  on_same e = record { room = a.polygon.room; held = a.polygon.held ∙ ap (corners s plane_of) (sym e) }
-
-  pub on_gone : clipped ≡ [] → ClippedOn s plane_of k t n t 0
-  unfolding corners
-  on_gone e = record { room = omega arith; held = read_none t ∙ ap (corners s plane_of) (sym e) }
-
-  pub on_cut : (u t' : List ℤ) (m : ℕ) → (m ≤ 134) × (read u m ≡ corners s plane_of clipped) → length t' ≡ length t → ((j : ℕ) → j < 5 * m → get_or t' j (pos 0) ≡ get_or u j (pos 0)) → ClippedOn s plane_of k t n t' m
-  on_cut u t' m q l f = record { room = omega (arith, a.room); held = read_same t' u m f ∙ q.1 }
+      pub clip_cut : (out' : List ℤ) (m : ℕ) → Emitted s plane_of k t sides out' m → 675 ≤ length out' → ClippedOn s plane_of k t n (take (5 * m) out' ++ drop (5 * m) t) m
+      clip_cut out' m e b = on_cut out' m b e.few (e.read_is ∙ put_clip)
 
   -- after the clip the table holds the polygon of one clip more
   module _ (t' : List ℤ) (r : ℕ) (c : ClippedOn s plane_of k t n t' r) where

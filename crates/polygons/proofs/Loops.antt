@@ -7,107 +7,61 @@ use Prim.Native.Nat.{ℕ, zero, suc, ◌+◌, ◌-◌, ◌*◌, ◌/◌, ◌≤�
 use native.Mathlib.Numerals.{add-one}
 use native.Mathlib.Omega.{arith}
 use lib.IntN.{ℤ}
-use lib.ListN.{length, get_or, set, length-append}
+use lib.ListN.{length, get_or, length-append}
 use lib.Dec.{T, ltb, ltb→lt}
-use lib.Seq.{get_or-set_same, get_or-set_other, get_or-take}
+use lib.Seq.{get_or-take}
 use Rattle.whole.specs.Tests.{◌and◌, differ, and_split}
-use Rattle.whole.specs.Sign.{plus}
 use Rattle.scope.specs.Planes.{Plane, meet}
 use Rattle.scope.specs.Section as scope
 use Rattle.theory.specs.Section.{Corner, corner, index, corners, put_corner, put_last}
 use Rattle.theory.specs.Section.Corners.{corners_from}
-use Rattle.planes.specs.declared.Plane as struct
+use Rattle.planes.specs.declared.Side.{Side}
 use Rattle.polygons.specs.declared.Place.{Place}
 use Rattle.polygons.specs.declared.Signal.{Signal}
 use Rattle.polygons.specs.declared.Signal.TheVariants.{Nothing, B, HB}
-use Rattle.polygons.specs.Values.{code, signal_is, signal_of, way_of, six, starts}
+use Rattle.polygons.specs.Values.{signal_is, signal_of, way_of, six, starts}
 use Rattle.polygons.specs.Tables.{box_side, look, corner_at, read, said_at, last_to, put_all}
-use Rattle.polygons.specs.Asked.{side_of, Looked, Puts}
+use Rattle.polygons.specs.Asked.{Puts}
 use Rattle.polygons.proofs.Rules.{signal_from}
 use Rattle.polygons.proofs.Cells.{read_none}
 use Rattle.polygons.proofs.Put.{puts_none}
 
--- ---- sides
-
-pub looked_none : (h : struct.Plane) (t : List ℤ) (sides : List ℕ) → Looked h t 0 sides 0
-looked_none h t sides = record { each = λ i l. absurd (omega arith); most = omega arith; none = λ e i l. absurd (omega arith) }
-
--- one side more: x is stored, and r counts it if it is in front
-pub looked_more : (h : struct.Plane) (t : List ℤ) (i : ℕ) (sides : List ℕ) (f x r : ℕ) → i < length sides → Looked h t i sides f → x ≡ code (side_of h t i)
-    → (x ≡ 2 → r ≡ f + 1) × ((x ≡ 2 → ⊥) → r ≡ f) → Looked h t (i + 1) (set sides i x) r
-looked_more h t i sides f x r l k e c = go x refl
-  where
-    here : (j : ℕ) → j < i + 1 → get_or (set sides i x) j 0 ≡ code (side_of h t j)
-    here j b = by (i - j) refl
-      where
-        by : (d : ℕ) → i - j ≡ d → get_or (set sides i x) j 0 ≡ code (side_of h t j)
-        by zero q = let p : j ≡ i = omega arith in rw p (get_or-set_same sides i x 0 l ∙ e)
-        by (suc d) q = get_or-set_other sides i j x 0 (λ p. omega arith) ∙ k.each j (omega arith)
-
-    front : x ≡ 2 → Looked h t (i + 1) (set sides i x) r
-    front q =
-        let n : r ≡ f + 1 = c.0 q in
-        record {
-          each = here;
-          most = omega (arith, k.most);
-          none = λ m. absurd (omega arith);
-        }
-
-    back : (x ≡ 2 → ⊥) → Looked h t (i + 1) (set sides i x) r
-    back q =
-        let n : r ≡ f = c.1 q in
-        record {
-          each = here;
-          most = omega (arith, k.most);
-          none = λ m j b. by j b (i - j) refl (k.none (omega arith));
-        }
-      where
-        by : (j : ℕ) → j < i + 1 → (d : ℕ) → i - j ≡ d → ((j : ℕ) → j < i → side_of h t j ≢ plus) → side_of h t j ≢ plus
-        by j b zero p a = let s : j ≡ i = omega arith in rw s (λ u. q (e ∙ ap code u))
-        by j b (suc d) p a = a j (omega arith)
-
-    go : (y : ℕ) → x ≡ y → Looked h t (i + 1) (set sides i x) r
-    go zero p = back (λ q. omega arith)
-    go (suc zero) p = back (λ q. omega arith)
-    go (suc (suc zero)) p = front p
-    go (suc (suc (suc y))) p = back (λ q. omega arith)
-
 -- ---- the index put out last
 
-module _ (sides : List ℕ) (t : List ℤ) (n : ℕ) where
-  pub last_none : (p : ℕ) → p ≡ last_to sides t n p 0
+module _ (sides : List Side) (t : List ℤ) where
+  pub last_none : (p : ℕ) → p ≡ last_to sides t p 0
   unfolding last_to
   last_none p = refl
 
-  pub last_more : (p i prev : ℕ) (g : Signal) → prev ≡ last_to sides t n p i → g ≡ signal_is (said_at sides n i) → put_last (signal_of g) prev (corner_at t i) ≡ last_to sides t n p (i + 1)
+  pub last_more : (p i prev : ℕ) (g : Signal) → prev ≡ last_to sides t p i → g ≡ signal_is (said_at sides i) → put_last (signal_of g) prev (corner_at t i) ≡ last_to sides t p (i + 1)
   unfolding last_to
-  last_more p i prev g e f = rw add-one (let s = signal_from (said_at sides n i) f in λ j. put_last (s j) (e j) (corner_at t i))
+  last_more p i prev g e f = rw add-one (let s = signal_from (said_at sides i) f in λ j. put_last (s j) (e j) (corner_at t i))
 
   -- from the end: a corner that puts nothing out is passed, and another one's index is put out last
-  module _ (p left i : ℕ) (l : left ≡ suc i) (g : Signal) (f : g ≡ signal_is (said_at sides n i)) where
-    pub last_passed : g ≡ Nothing → last_to sides t n p i ≡ last_to sides t n p left
+  module _ (p left i : ℕ) (l : left ≡ suc i) (g : Signal) (f : g ≡ signal_is (said_at sides i)) where
+    pub last_passed : g ≡ Nothing → last_to sides t p i ≡ last_to sides t p left
     unfolding last_to
-    last_passed e = rw l (by (said_at sides n i) (sym e ∙ f))
+    last_passed e = rw l (by (said_at sides i) (sym e ∙ f))
       where
-        by : (s : scope.Signal) → Nothing ≡ signal_is s → last_to sides t n p i ≡ put_last s (last_to sides t n p i) (corner_at t i)
+        by : (s : scope.Signal) → Nothing ≡ signal_is s → last_to sides t p i ≡ put_last s (last_to sides t p i) (corner_at t i)
         by scope.nothing q = refl
         by scope.B q = differ (cc)
         by scope.HB q = differ (cc)
 
-    pub last_found : g ≢ Nothing → index (corner_at t i) ≡ last_to sides t n p left
+    pub last_found : g ≢ Nothing → index (corner_at t i) ≡ last_to sides t p left
     unfolding last_to
-    last_found e = rw l (by (said_at sides n i) (λ q. e (f ∙ ap signal_is q)))
+    last_found e = rw l (by (said_at sides i) (λ q. e (f ∙ ap signal_is q)))
       where
-        by : (s : scope.Signal) → s ≢ scope.nothing → index (corner_at t i) ≡ put_last s (last_to sides t n p i) (corner_at t i)
+        by : (s : scope.Signal) → s ≢ scope.nothing → index (corner_at t i) ≡ put_last s (last_to sides t p i) (corner_at t i)
         by scope.nothing q = absurd (q refl)
         by scope.B q = refl
         by scope.HB q = refl
 
   -- it is an index of the polygon, if it was one before
-  pub last_below : (p top : ℕ) → p < top → ((i : ℕ) → i < n → index (corner_at t i) < top) → (i : ℕ) → i ≤ n → last_to sides t n p i < top
+  pub last_below : (p top : ℕ) → p < top → ((i : ℕ) → i < length sides → index (corner_at t i) < top) → (i : ℕ) → i ≤ length sides → last_to sides t p i < top
   unfolding last_to
   last_below p top l f zero b = l
-  last_below p top l f (suc i) b = by (corner_at t i) (said_at sides n i) (last_below p top l f i (omega arith)) (f i (omega arith))
+  last_below p top l f (suc i) b = by (corner_at t i) (said_at sides i) (last_below p top l f i (omega arith)) (f i (omega arith))
     where
       by : {q : ℕ} (c : Corner) (g : scope.Signal) → q < top → index c < top → put_last g q c < top
       by c scope.nothing a d = a
@@ -116,48 +70,48 @@ module _ (sides : List ℕ) (t : List ℤ) (n : ℕ) where
 
 -- ---- what is put out
 
-module _ (s : Plane) (plane : ℕ → Plane) (k : ℕ) (sides : List ℕ) (t : List ℤ) (n p : ℕ) where
+module _ (s : Plane) (plane : ℕ → Plane) (k : ℕ) (sides : List Side) (t : List ℤ) (p : ℕ) where
   abbrev put_one : ℕ → List Corner
-  put_one i = put_corner s plane k (said_at sides n i) (last_to sides t n p i) (corner_at t i)
+  put_one i = put_corner s plane k (said_at sides i) (last_to sides t p i) (corner_at t i)
 
-  pub put_all_none : put_all s plane k sides t n p 0 ≡ []
+  pub put_all_none : put_all s plane k sides t p 0 ≡ []
   unfolding put_all
   put_all_none = refl
 
-  put_all_suc : (i : ℕ) → put_all s plane k sides t n p (suc i) ≡ put_all s plane k sides t n p i ++ put_one i
+  put_all_suc : (i : ℕ) → put_all s plane k sides t p (suc i) ≡ put_all s plane k sides t p i ++ put_one i
   unfolding put_all
   put_all_suc i = refl
 
-  put_all_more : (i d j : ℕ) → i + d ≡ j → length (put_all s plane k sides t n p i) ≤ length (put_all s plane k sides t n p j)
+  put_all_more : (i d j : ℕ) → i + d ≡ j → length (put_all s plane k sides t p i) ≤ length (put_all s plane k sides t p j)
   put_all_more i zero j e = let f : i ≡ j = omega arith in rw f (omega arith)
   put_all_more i (suc d) zero e = absurd (omega arith)
-  put_all_more i (suc d) (suc j) e = omega (arith, put_all_more i d j (omega arith), ap length (put_all_suc j), length-append (put_all s plane k sides t n p j) (put_one j))
+  put_all_more i (suc d) (suc j) e = omega (arith, put_all_more i d j (omega arith), ap length (put_all_suc j), length-append (put_all s plane k sides t p j) (put_one j))
 
   -- at corner i: at, prev and g are what the loop has
-  module _ (i at prev : ℕ) (g : Signal) (a : at ≡ length (put_all s plane k sides t n p i)) (e : prev ≡ last_to sides t n p i) (f : g ≡ signal_is (said_at sides n i)) where
+  module _ (i at prev : ℕ) (g : Signal) (a : at ≡ length (put_all s plane k sides t p i)) (e : prev ≡ last_to sides t p i) (f : g ≡ signal_is (said_at sides i)) where
     put_same : put_corner s plane k (signal_of g) prev (corner_at t i) ≡ put_one i
-    put_same = let u = signal_from (said_at sides n i) f in λ j. put_corner s plane k (u j) (e j) (corner_at t i)
+    put_same = let u = signal_from (said_at sides i) f in λ j. put_corner s plane k (u j) (e j) (corner_at t i)
 
     -- there is room for what corner i puts out
-    pub step_room : i < n → length (put_all s plane k sides t n p n) ≤ 134 → at + length (put_corner s plane k (signal_of g) prev (corner_at t i)) ≤ 134
+    pub step_room : i < length sides → length (put_all s plane k sides t p (length sides)) ≤ 134 → at + length (put_corner s plane k (signal_of g) prev (corner_at t i)) ≤ 134
     step_room l h = omega (
       arith,
       ap length put_same,
-      put_all_more (suc i) (n - suc i) n (omega arith),
+      put_all_more (suc i) (length sides - suc i) (length sides) (omega arith),
       ap length (put_all_suc i),
-      length-append (put_all s plane k sides t n p i) (put_one i),
+      length-append (put_all s plane k sides t p i) (put_one i),
     )
 
     -- and then the first i + 1 corners are put out
     module _ (out out' : List ℤ) (r : Place) (q : Puts out out' at (put_corner s plane k (signal_of g) prev (corner_at t i)) (put_last (signal_of g) prev (corner_at t i)) r) where
-      counted : at + length (put_corner s plane k (signal_of g) prev (corner_at t i)) ≡ length (put_all s plane k sides t n p (suc i))
-      counted = omega (arith, ap length put_same, ap length (put_all_suc i), length-append (put_all s plane k sides t n p i) (put_one i))
+      counted : at + length (put_corner s plane k (signal_of g) prev (corner_at t i)) ≡ length (put_all s plane k sides t p (suc i))
+      counted = omega (arith, ap length put_same, ap length (put_all_suc i), length-append (put_all s plane k sides t p i) (put_one i))
 
-      pub step_count : r.at ≡ length (put_all s plane k sides t n p (i + 1))
-      step_count = q.at_is ∙ counted ∙ ap (λ j. length (put_all s plane k sides t n p j)) (sym (add-one i))
+      pub step_count : r.at ≡ length (put_all s plane k sides t p (i + 1))
+      step_count = q.at_is ∙ counted ∙ ap (λ j. length (put_all s plane k sides t p j)) (sym (add-one i))
 
-      pub step_read : read out at ≡ put_all s plane k sides t n p i → read out' r.at ≡ put_all s plane k sides t n p (i + 1)
-      step_read b = ap (read out') q.at_is ∙ q.read_is ∙ (λ j. b j ++ put_same j) ∙ sym (put_all_suc i) ∙ ap (put_all s plane k sides t n p) (sym (add-one i))
+      pub step_read : read out at ≡ put_all s plane k sides t p i → read out' r.at ≡ put_all s plane k sides t p (i + 1)
+      step_read b = ap (read out') q.at_is ∙ q.read_is ∙ (λ j. b j ++ put_same j) ∙ sym (put_all_suc i) ∙ ap (put_all s plane k sides t p) (sym (add-one i))
 
 -- ---- one step, by its signal
 

@@ -3,8 +3,8 @@
 --     minor_read      a minor that was handed on
 --     line_..         the line of two planes in range, and the meetings on it
 use mathlib.Core.Path.{◌≡◌, sym, ap, subst, ◌∙◌}
-use mathlib.Core.Bool.{true}
 use mathlib.Core.List.{List, [], ◌∷◌}
+use Prim.Native.Nat.{ℕ, ◌<◌}
 use lib.IntN.{ℤ, pos, ◌-ℤ◌}
 use mir.Syntax.{w64}
 use mir.Val.{SFits}
@@ -21,6 +21,8 @@ use Rattle.planes.specs.Bounds.{PlaneIn, TwoIn, MinorIn, minor_bound, in_range_i
 use Rattle.planes.proofs.Laws.{minor_kept, minor_ad, minor_bd, minor_cd}
 use Rattle.planes.specs.declared.Plane.{Plane}
 use Rattle.polygons.specs.declared.Line.{Line}
+use Rattle.polygons.specs.Tables.{look}
+use Rattle.polygons.specs.Asked.{Region}
 use Rattle.polygons.specs.Lines.{LineOf, OnLineIn, mixture, MixedIn, most_minor, most_minor_d}
 use Rattle.polygons.proofs.Kept.{k}
 
@@ -38,9 +40,6 @@ wc = var 4 ⊗ var 5
 module _ {u a v b w c : ℤ} (h : MixedIn u a v b w c) where
   abbrev pub entries : List Entry
   entries = arg h.u_in ∷ arg h.a_in ∷ arg h.v_in ∷ arg h.b_in ∷ arg h.w_in ∷ arg h.c_in ∷ []
-
-  pub mixed_asked : MixedIn (k u) (k a) (k v) (k b) (k w) (k c)
-  mixed_asked = rw (in64 h.u_in tt, in64 h.a_in tt, in64 h.v_in tt, in64 h.b_in tt, in64 h.w_in tt, in64 h.c_in tt) h
 
   mixed_bound : Within (mixture u a v b w c) 600000000000000
   mixed_bound = value_within (local h.u_in ∷ local h.a_in ∷ local h.v_in ∷ local h.b_in ∷ local h.w_in ∷ local h.c_in ∷ []) (ua ⊖ vb ⊕ wc)
@@ -130,8 +129,16 @@ on_line_asked {p} {q} {r} {l} t g h = record {
     large : {m a b c d : ℤ} → m ≡ scope.minor a b c d → MinorIn a b c d → Within m most_minor_d
     large e h = rw e (minor_bound h)
 
-pub two_in : {p q : Plane} → scope.in_range (plane p) ≡ true → scope.in_range (plane q) ≡ true → TwoIn p q
-two_in e f = record { first = in_range_in e; second = in_range_in f }
+-- the support and the planes of indices
+module _ {s : Plane} {hs : List ℤ} {width top : ℕ} (r : Region (plane s) hs width top) {k : ℕ} (l : k < top) {h : Plane} (e : plane h ≡ look hs width k) where
+  pub index_in : PlaneIn h.a h.b h.c h.d
+  index_in = in_range_in (ap scope.in_range e ∙ r.ranged k l)
+
+  pub support_first : TwoIn s h
+  support_first = record { first = in_range_in r.support; second = index_in }
+
+  pub support_second : TwoIn h s
+  support_second = record { first = index_in; second = in_range_in r.support }
 
 -- the meeting that begins with the support: a turn of the one that ends with the third plane
 pub turn_last : (s p q : scope.Plane) → scope.meet q s p ≡ scope.meet s p q

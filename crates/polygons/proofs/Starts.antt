@@ -8,7 +8,7 @@ use mathlib.Core.Path.{◌≡◌, refl, sym, ap, ◌∙◌}
 use mathlib.Core.Bool.{true}
 use mathlib.Core.Logic.{◌≢◌}
 use mathlib.Core.List.{List, [], ◌∷◌, ◌++◌, map, append_assoc, append-nil}
-use Prim.Native.Nat.{ℕ, zero, suc, ◌+◌, ◌-◌, ◌≤◌, ◌<◌}
+use Prim.Native.Nat.{ℕ, zero, suc, ◌+◌, ◌-◌, ◌*◌, ◌/◌, ◌≤◌, ◌<◌}
 use native.Mathlib.Numerals.{add-one}
 use native.Mathlib.Omega.{arith}
 use lib.IntN.{ℤ}
@@ -18,11 +18,11 @@ use Rattle.scope.specs.Planes.{Plane, in_range, lead}
 use Rattle.scope.specs.Section as scope
 use Rattle.theory.specs.Section.{index, corners, corners_index, clips_app, clips_nothing, rest_length}
 use Rattle.polygons.specs.Values.{way_code, way_of, six, starts}
-use Rattle.polygons.specs.Tables.{row, look, read, indices, rows_to}
-use Rattle.polygons.specs.Asked.{Region, Polygon, ClipIn, ClippedOn}
+use Rattle.polygons.specs.Tables.{box_side, row, look, read, indices, rows_to}
+use Rattle.polygons.specs.Asked.{Region, Polygon, ClipIn, ClippedOn, Supported}
 use Rattle.polygons.proofs.Rules.{way_back, way_small}
 use Rattle.polygons.proofs.Cells.{read_none, look_row, box_in}
-use Rattle.polygons.proofs.Loops.{start_small, start_entry}
+use Rattle.polygons.proofs.Loops.{start_small, start_entry, start_corners, rest_first, rest_second}
 use Rattle.polygons.proofs.Clips.{indices_at, indices_none, clipped_polygon}
 
 -- ---- the start
@@ -108,36 +108,36 @@ module _ (s : Plane) (plane : ℕ → Plane) where
 pub look_6 : (hs : List ℤ) (width i : ℕ) → look hs width (6 + i) ≡ row hs width i
 look_6 hs width i = let e : 6 + i - 6 ≡ i = omega arith in sym (look_row hs width (6 + i) (omega arith)) ∙ ap (row hs width) e
 
-module _ (s : Plane) (hs : List ℤ) (rows : ℕ) where
+module _ (s : Plane) (hs : List ℤ) (width rows : ℕ) where
   abbrev all_to : ℕ → List Plane
-  all_to i = scope.rest (scope.way s) ++ rows_to hs 4 i
+  all_to i = scope.rest (scope.way s) ++ rows_to hs width i
 
   pub rows_none : scope.rest (scope.way s) ≡ all_to 0
   unfolding rows_to
   rows_none = sym (append-nil (scope.rest (scope.way s)))
 
-  rows_more : (i : ℕ) → all_to i ++ look hs 4 (6 + i) ∷ [] ≡ all_to (suc i)
+  rows_more : (i : ℕ) → all_to i ++ look hs width (6 + i) ∷ [] ≡ all_to (suc i)
   unfolding rows_to
-  rows_more i = ap (λ p. all_to i ++ p ∷ []) (look_6 hs 4 i) ∙ append_assoc (scope.rest (scope.way s)) (rows_to hs 4 i) (row hs 4 i ∷ [])
+  rows_more i = ap (λ p. all_to i ++ p ∷ []) (look_6 hs width i) ∙ append_assoc (scope.rest (scope.way s)) (rows_to hs width i) (row hs width i ∷ [])
 
-  pub rows_next : (i : ℕ) → all_to i ++ look hs 4 (6 + i) ∷ [] ≡ all_to (i + 1)
+  pub rows_next : (i : ℕ) → all_to i ++ look hs width (6 + i) ∷ [] ≡ all_to (i + 1)
   rows_next i = rows_more i ∙ ap all_to (sym (add-one i))
 
-  rows_length : (i : ℕ) → length (rows_to hs 4 i) ≡ i
+  rows_length : (i : ℕ) → length (rows_to hs width i) ≡ i
   unfolding rows_to
   rows_length zero = refl
-  rows_length (suc i) = length-append (rows_to hs 4 i) (row hs 4 i ∷ []) ∙ omega (arith, rows_length i)
+  rows_length (suc i) = length-append (rows_to hs width i) (row hs width i ∷ []) ∙ omega (arith, rows_length i)
 
   pub rows_few : (i : ℕ) → i < rows → rows ≤ 128 → length (all_to i) ≤ 129
-  rows_few i l m = omega (arith, length-append (scope.rest (scope.way s)) (rows_to hs 4 i), rows_length i, rest_length (scope.way s))
+  rows_few i l m = omega (arith, length-append (scope.rest (scope.way s)) (rows_to hs width i), rows_length i, rest_length (scope.way s))
 
   -- Nothing after i rows is Nothing after all
   pub rows_gone : (i d n : ℕ) → i + d ≡ n → scope.clips s (all_to i) (scope.start (scope.way s)) ≡ [] → scope.clips s (all_to n) (scope.start (scope.way s)) ≡ []
   rows_gone i zero n e z = let f : i ≡ n = omega arith in rw (← f) z
   rows_gone i (suc d) zero e z = absurd (omega arith)
   rows_gone i (suc d) (suc n) e z =
-      ap (λ g. scope.clips s g (scope.start (scope.way s))) (sym (rows_more n)) ∙ clips_app s (all_to n) (look hs 4 (6 + n) ∷ []) (scope.start (scope.way s))
-      ∙ ap (scope.clips s (look hs 4 (6 + n) ∷ [])) (rows_gone i d n (omega arith) z) ∙ clips_nothing s (look hs 4 (6 + n) ∷ [])
+      ap (λ g. scope.clips s g (scope.start (scope.way s))) (sym (rows_more n)) ∙ clips_app s (all_to n) (look hs width (6 + n) ∷ []) (scope.start (scope.way s))
+      ∙ ap (scope.clips s (look hs width (6 + n) ∷ [])) (rows_gone i d n (omega arith) z) ∙ clips_nothing s (look hs width (6 + n) ∷ [])
 
 -- the planes of all indices are in range, as those of the rows are
 pub between : (hs : List ℤ) (width rows k : ℕ) → ((i : ℕ) → i < rows → in_range (row hs width i) ≡ true) → k < 6 + rows → in_range (look hs width k) ≡ true
@@ -149,35 +149,38 @@ between hs width rows k f l = by (6 - k) refl
 
 -- ---- the start and its two clips, as the code makes them
 
-module _ (s : Plane) (hs : List ℤ) (width : ℕ) (b : in_range s ≡ true) (o : lead s ≢ nought) (w : ℕ) (e : w ≡ way_code (scope.way s)) (j k : ℕ) (f : j ≡ get_or (six (way_of w)) 4 0) (g : k ≡ get_or (six (way_of w)) 5 0)
-    (t : List ℤ) (l : 675 ≤ length t) (h : read t 4 ≡ corners s (look hs width) (starts (way_of w))) (out : List ℤ) (l' : 675 ≤ length out) where
-  abbrev pub first_clip : ClipIn s hs width j t 4 out
+abbrev six_ways : (s : Plane) {w : ℕ} → w ≡ way_code (scope.way s) → w < 6
+six_ways s e = rw e (way_small (scope.way s))
+
+module _ {s : Plane} (hs : List ℤ) (width : ℕ) {t₀ out : List ℤ} (p : Supported s t₀ out) {w : ℕ} (e : w ≡ way_code (scope.way s)) (t : List ℤ) (l : length t ≡ length t₀) (h : read t 4 ≡ corners s box_side (starts (way_of w))) where
+  abbrev pub first_clip : ClipIn s hs width (w / 2 * 2) t 4 out
   first_clip = record {
     top = 6;
     gs = [];
-    region = region_box s hs width b o;
-    k_below = rest_small s hs width b o w e 4 j f (omega arith);
-    polygon = opened_start s hs width b o w e t l h;
+    region = region_box s hs width p.support p.normal;
+    k_below = rest_small s hs width p.support p.normal w e 4 (w / 2 * 2) (rest_first w (six_ways s e)) (omega arith);
+    polygon = opened_start s hs width p.support p.normal w e t (omega (arith, p.room)) (h ∙ start_corners s hs width (way_of w));
     few = omega arith;
-    room = l;
-    out_room = l';
+    room = omega (arith, p.room);
+    out_room = p.out_room;
   }
 
-  module _ (t' : List ℤ) (n : ℕ) (c : ClippedOn s (look hs width) j t 4 t' n) (m : 675 ≤ length t') (out' : List ℤ) (m' : 675 ≤ length out') where
-    abbrev pub second_clip : ClipIn s hs width k t' n out'
+  module _ {t' : List ℤ} {n : ℕ} (c : ClippedOn s (look hs width) (w / 2 * 2) t 4 t' n) (l' : length t' ≡ length t) (out' : List ℤ) (m : length out' ≡ length out) where
+    abbrev pub second_clip : ClipIn s hs width (w / 2 * 2 + 1) t' n out'
     second_clip = record {
       top = 6;
-      gs = look hs width j ∷ [];
-      region = region_box s hs width b o;
-      k_below = rest_small s hs width b o w e 5 k g (omega arith);
-      polygon = clipped_polygon s hs width j t 4 out first_clip t' n c;
+      gs = look hs width (w / 2 * 2) ∷ [];
+      region = region_box s hs width p.support p.normal;
+      k_below = rest_small s hs width p.support p.normal w e 5 (w / 2 * 2 + 1) (rest_second w (six_ways s e)) (omega arith);
+      polygon = clipped_polygon s hs width (w / 2 * 2) t 4 out first_clip t' n c;
       few = omega arith;
-      room = m;
-      out_room = m';
+      room = omega (arith, p.room);
+      out_room = omega (arith, p.out_room);
     }
 
-    pub opened_polygon : (t'' : List ℤ) (r : ℕ) → ClippedOn s (look hs width) k t' n t'' r → Polygon s (look hs width) 6 (scope.rest (scope.way s)) t'' r
-    opened_polygon t'' r q = rw (opened_rest s hs width b o w e j k f g) at (clipped_polygon s hs width k t' n out' second_clip t'' r q)
+    pub opened_polygon : {t'' : List ℤ} {r : ℕ} → ClippedOn s (look hs width) (w / 2 * 2 + 1) t' n t'' r → Polygon s (look hs width) 6 (scope.rest (scope.way s)) t'' r
+    opened_polygon {t''} {r} q =
+        rw (opened_rest s hs width p.support p.normal w e (w / 2 * 2) (w / 2 * 2 + 1) (rest_first w (six_ways s e)) (rest_second w (six_ways s e))) at (clipped_polygon s hs width (w / 2 * 2 + 1) t' n out' second_clip t'' r q)
 
 -- ---- a clip by row i
 
@@ -192,18 +195,18 @@ module _ (s : Plane) (hs : List ℤ) (width rows : ℕ) (g : Region s hs width (
 
 -- ---- a turn of the loop over rows in order
 
-module _ (s : Plane) (hs : List ℤ) (rows : ℕ) (g : Region s hs 4 (6 + rows)) (i : ℕ) (l : i < rows) (t : List ℤ) (n : ℕ) (out : List ℤ) (p : Polygon s (look hs 4) (6 + rows) (scope.rest (scope.way s) ++ rows_to hs 4 i) t n)
+module _ (s : Plane) (hs : List ℤ) (width rows : ℕ) (g : Region s hs width (6 + rows)) (i : ℕ) (l : i < rows) (t : List ℤ) (n : ℕ) (out : List ℤ) (p : Polygon s (look hs width) (6 + rows) (scope.rest (scope.way s) ++ rows_to hs width i) t n)
     (m : 675 ≤ length t) (m' : 675 ≤ length out) where
-  few : length (scope.rest (scope.way s) ++ rows_to hs 4 i) ≤ 129
-  few = rows_few s hs rows i l (omega (arith, g.few))
+  few : length (scope.rest (scope.way s) ++ rows_to hs width i) ≤ 129
+  few = rows_few s hs width rows i l (omega (arith, g.few))
 
-  pub turn_clip : ClipIn s hs 4 (6 + i) t n out
-  turn_clip = row_clip s hs 4 rows g i l (scope.rest (scope.way s) ++ rows_to hs 4 i) t n out p few m m'
+  pub turn_clip : ClipIn s hs width (6 + i) t n out
+  turn_clip = row_clip s hs width rows g i l (scope.rest (scope.way s) ++ rows_to hs width i) t n out p few m m'
 
-  module _ (t' : List ℤ) (r : ℕ) (q : ClippedOn s (look hs 4) (6 + i) t n t' r) where
-    pub turn_more : Polygon s (look hs 4) (6 + rows) (scope.rest (scope.way s) ++ rows_to hs 4 (i + 1)) t' r
-    turn_more = rw (rows_next s hs rows i) at (row_clipped s hs 4 rows g i l (scope.rest (scope.way s) ++ rows_to hs 4 i) t n out p few m m' t' r q)
+  module _ (t' : List ℤ) (r : ℕ) (q : ClippedOn s (look hs width) (6 + i) t n t' r) where
+    pub turn_more : Polygon s (look hs width) (6 + rows) (scope.rest (scope.way s) ++ rows_to hs width (i + 1)) t' r
+    turn_more = rw (rows_next s hs width rows i) at (row_clipped s hs width rows g i l (scope.rest (scope.way s) ++ rows_to hs width i) t n out p few m m' t' r q)
 
-    pub turn_gone : r ≡ 0 → Polygon s (look hs 4) (6 + rows) (scope.rest (scope.way s) ++ rows_to hs 4 rows) t' 0
-    turn_gone e = nothing_polygon s (look hs 4) (6 + rows) (scope.rest (scope.way s) ++ rows_to hs 4 rows) t'
-        (rows_gone s hs rows (i + 1) (rows - (i + 1)) rows (omega arith) (polygon_nothing s (look hs 4) turn_more e))
+    pub turn_gone : r ≡ 0 → Polygon s (look hs width) (6 + rows) (scope.rest (scope.way s) ++ rows_to hs width rows) t' 0
+    turn_gone e = nothing_polygon s (look hs width) (6 + rows) (scope.rest (scope.way s) ++ rows_to hs width rows) t'
+        (rows_gone s hs width rows (i + 1) (rows - (i + 1)) rows (omega arith) (polygon_nothing s (look hs width) turn_more e))

@@ -5,19 +5,18 @@
 --     corner_at, read     corner i of a table; its first n corners
 --     indices             their indices
 --     rows_to, rows_down  the half-spaces of the first n rows, and last first
---     said_at, last_to, put_all   what the sides of n corners say of corner i; the index put out last by the first i corners, and what these put out
-use Rattle.std.specs.Prelude.{List, [], ◌∷◌, ◌++◌, map, ℕ, zero, suc, ◌+◌, ◌-◌, ◌*◌, ℤ, pos, negsuc, get_or}
+--     said_at, last_to, put_all   what the sides of the corners say of corner i; the index put out last by the first i corners, and what these put out
+use Rattle.std.specs.Prelude.{List, [], ◌∷◌, ◌++◌, map, ℕ, zero, suc, ◌+◌, ◌-◌, ◌*◌, ℤ, pos, negsuc, length, get_or}
 use Rattle.scope.specs.Planes.{Plane}
 use Rattle.scope.specs.Cells.{x-, x+, y-, y+, z-, z+}
 use Rattle.scope.specs.Section.{Signal, table}
 use Rattle.theory.specs.Section.{Corner, corner, index, put_corner, put_last}
 use Rattle.theory.specs.Section.Index.{prior, next}
-use Rattle.planes.specs.Values.{quad}
-use Rattle.polygons.specs.Values.{sign_of}
-
+use Rattle.planes.specs.Values.{quad, side_sign}
+use Rattle.planes.specs.declared.Side.{Side}
+use Rattle.planes.specs.declared.Side.TheVariants.{On}
 -- entry i, and the three after it
-abbrev pub four_at : List ℤ → ℕ → Plane
-four_at t i = quad (get_or t i (pos 0)) (get_or t (i + 1) (pos 0)) (get_or t (i + 2) (pos 0)) (get_or t (i + 3) (pos 0))
+pub use Rattle.planes.specs.Values.{four_at}
 
 unfoldable pub row : List ℤ → ℕ → ℕ → Plane
 row hs width i = four_at hs (i * width)
@@ -66,16 +65,16 @@ unfoldable pub rows_down : List ℤ → ℕ → ℕ → List Plane
 rows_down hs width zero = []
 rows_down hs width (suc n) = row hs width n ∷ rows_down hs width n
 
--- ---- the loop over n corners, by their sides
+-- ---- the loop over corners, by their sides
 
-abbrev pub said_at : List ℕ → ℕ → ℕ → Signal
-said_at sides n i = table (sign_of (get_or sides (prior n i) 0)) (sign_of (get_or sides i 0)) (sign_of (get_or sides (next n i) 0))
+abbrev pub said_at : List Side → ℕ → Signal
+said_at sides i = table (side_sign (get_or sides (prior (length sides) i) On)) (side_sign (get_or sides i On)) (side_sign (get_or sides (next (length sides) i) On))
 
-unfoldable pub last_to : List ℕ → List ℤ → ℕ → ℕ → ℕ → ℕ
-last_to sides t n p zero = p
-last_to sides t n p (suc i) = put_last (said_at sides n i) (last_to sides t n p i) (corner_at t i)
+unfoldable pub last_to : List Side → List ℤ → ℕ → ℕ → ℕ
+last_to sides t p zero = p
+last_to sides t p (suc i) = put_last (said_at sides i) (last_to sides t p i) (corner_at t i)
 
 module _ (s : Plane) (plane : ℕ → Plane) (k : ℕ) where
-  unfoldable pub put_all : List ℕ → List ℤ → ℕ → ℕ → ℕ → List Corner
-  put_all sides t n p zero = []
-  put_all sides t n p (suc i) = put_all sides t n p i ++ put_corner s plane k (said_at sides n i) (last_to sides t n p i) (corner_at t i)
+  unfoldable pub put_all : List Side → List ℤ → ℕ → ℕ → List Corner
+  put_all sides t p zero = []
+  put_all sides t p (suc i) = put_all sides t p i ++ put_corner s plane k (said_at sides i) (last_to sides t p i) (corner_at t i)

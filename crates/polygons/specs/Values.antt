@@ -1,29 +1,19 @@
 -- What the code's numbers and enums stand for.
---     code, sign_of     a side as the code has it, 0 behind, 1 on, 2 in front, and back
---     signal_code       what a bound puts out, in the table of the 27 codes
---     signal_is, signal_of   and as an enum, and back
+--     code              the code of a side: 0 behind, 1 on, 2 in front
+--     signal_is, signal_of   what a bound puts out, as an enum, and back
 --     way_code, way_of  a way as a number, and back
 --     six, starts       the indices of its four bounds and of the remaining axis's two planes; those of the four
 use Rattle.std.specs.Prelude.{List, [], ◌∷◌, ℕ, zero, suc, ◌+◌, ℤ, pos, negsuc, take}
-use Rattle.whole.specs.Sign.{Sign, minus, nought, plus}
 use Rattle.scope.specs.Section as scope
+use Rattle.planes.specs.declared.Side.{Side}
+use Rattle.planes.specs.declared.Side.TheVariants.{Front, On, Back}
 use Rattle.polygons.specs.declared.Signal.{Signal}
 use Rattle.polygons.specs.declared.Signal.TheVariants.{Nothing, B, HB}
 
-abbrev pub code : Sign → ℕ
-code minus = 0
-code nought = 1
-code plus = 2
-
-unfoldable pub sign_of : ℕ → Sign
-sign_of zero = minus
-sign_of (suc zero) = nought
-sign_of (suc (suc n)) = plus
-
-abbrev pub signal_code : scope.Signal → ℕ
-signal_code scope.nothing = 0
-signal_code scope.B = 1
-signal_code scope.HB = 2
+abbrev pub code : Side → ℕ
+code Back = 0
+code On = 1
+code Front = 2
 
 abbrev pub signal_is : scope.Signal → Signal
 signal_is scope.nothing = Nothing

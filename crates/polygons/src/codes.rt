@@ -1,60 +1,62 @@
 // The 27 codes: what a bound puts out, by the sides of the vertices before, at and after it.
-// A side is 0 behind, 1 on and 2 in front.
-ghost use Rattle.std.specs.Prelude.{◌≡◌, ◌<◌};
+ghost use Rattle.std.specs.Prelude.{◌≡◌, ◌<◌, length};
 ghost use Rattle.scope.specs.Section.{table};
 ghost use Rattle.theory.specs.Section.Index.{prior as the-prior, next as the-next};
-ghost use Rattle.polygons.specs.Values.{sign_of, signal_is};
+ghost use Rattle.planes.specs.Values.{side_sign};
+ghost use Rattle.polygons.specs.Values.{code, signal_is};
 ghost use Rattle.polygons.specs.Tables.{said_at};
-ghost use Rattle.polygons.specs.Asked.{Signals, Sides};
 
 use crate::Signal;
+use crate::Signal::{B, HB, Nothing};
+use planes::Side;
 
-// By three sides, the first of them counting nines: 0 is nothing, 1 B and 2 HB.
-// A constant table is built anew at each use, so a clip takes it once and lends it to the functions below.
-pub const SIGNALS: [u8; 27] = [
-    0, // ---
-    0, // --0
-    2, // --+
-    0, // -0-
-    0, // -00
-    2, // -0+
-    1, // -+-
-    1, // -+0
-    1, // -++
-    0, // 0--
-    0, // 0-0
-    2, // 0-+
-    0, // 00-
-    0, // 000
-    2, // 00+
-    1, // 0+-
-    1, // 0+0
-    1, // 0++
-    0, // +--
-    0, // +-0
-    2, // +-+
-    0, // +0-
-    0, // +00
-    1, // +0+
-    1, // ++-
-    1, // ++0
-    1, // +++
+// By the codes of three sides, the first of them counting nines.
+static SIGNALS: [Signal; 27] = [
+    Nothing, // ---
+    Nothing, // --0
+    HB, // --+
+    Nothing, // -0-
+    Nothing, // -00
+    HB, // -0+
+    B, // -+-
+    B, // -+0
+    B, // -++
+    Nothing, // 0--
+    Nothing, // 0-0
+    HB, // 0-+
+    Nothing, // 00-
+    Nothing, // 000
+    HB, // 00+
+    B, // 0+-
+    B, // 0+0
+    B, // 0++
+    Nothing, // +--
+    Nothing, // +-0
+    HB, // +-+
+    Nothing, // +0-
+    Nothing, // +00
+    B, // +0+
+    B, // ++-
+    B, // ++0
+    B, // +++
 ];
 
-// What three sides say.
-pub fn signal(signals: &[u8], l: u8, m: u8, r: u8) -> Signal
-    requires { Signals signals.now × (l < 3) × (m < 3) × (r < 3) }
-    ensures { result ≡ signal_is (table (sign_of l) (sign_of m) (sign_of r)) }
+// The code of a side: 0 behind, 1 on and 2 in front.
+pub fn code(s: Side) -> usize
+    ensures { result ≡ code s }
 {
-    let k = l as usize * 9 + m as usize * 3 + r as usize;
-    let s = signals[k];
-    if s == 0 {
-        return Signal::Nothing;
+    match s {
+        Side::Back => 0,
+        Side::On => 1,
+        Side::Front => 2,
     }
-    if s == 1 {
-        return Signal::B;
-    }
-    Signal::HB
+}
+
+// What three sides say.
+pub fn signal(l: Side, m: Side, r: Side) -> Signal
+    ensures { result ≡ signal_is (table (side_sign l) (side_sign m) (side_sign r)) }
+{
+    SIGNALS[code(l) * 9 + code(m) * 3 + code(r)]
 }
 
 // The index before i in a cycle of n.
@@ -79,10 +81,11 @@ pub fn next(n: usize, i: usize) -> usize
     i + 1
 }
 
-// What the sides of n vertices say of bound i.
-pub fn said(signals: &[u8], sides: &[u8], n: usize, i: usize) -> Signal
-    requires { Signals signals.now × Sides sides.now n × (i < n) }
-    ensures { result ≡ signal_is (said_at sides.now n i) }
+// What the sides of the vertices say of bound i.
+pub fn said(sides: &[Side], i: usize) -> Signal
+    requires { i < length sides.now }
+    ensures { result ≡ signal_is (said_at sides.now i) }
 {
-    signal(signals, sides[prior(n, i)], sides[i], sides[next(n, i)])
+    let n = sides.len();
+    signal(sides[prior(n, i)], sides[i], sides[next(n, i)])
 }

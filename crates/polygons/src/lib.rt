@@ -3,6 +3,8 @@
 // starts. An index below 6 is a side of the box, x-, x+, y-, y+, z-, z+; the half-space of row i has the index 6 + i.
 #![tactic(auto)]
 
+ghost use Rattle.std.specs.Prelude.{◌≡◌, pos, replicate};
+
 mod clipping;
 mod codes;
 mod lines;
@@ -11,9 +13,35 @@ mod table;
 
 pub use clipping::clip_on;
 pub use start::{begin, opened, way};
-pub use table::{added, index_at, row, write_row};
+pub use table::{added, index_at};
 
 // ---- the kinds
+
+// Half-spaces in a table, in rows that are width numbers apart: each row begins with the four numbers of a half-space.
+#[derive(Clone, Copy)]
+pub struct Halves<'a> {
+    pub numbers: &'a [i64],
+    pub width: usize,
+}
+
+// Two tables of 135 corners: a polygon stands in one, and a clip puts out into the other.
+#[derive(Drop)]
+pub struct Room {
+    pub first: [i64; 675],
+    pub second: [i64; 675],
+}
+
+impl Room {
+    // Both tables with zeros.
+    pub fn new() -> Room
+        ensures { result ≡ record { first = replicate 675 (pos 0); second = replicate 675 (pos 0) } }
+    {
+        Room {
+            first: [0; 675],
+            second: [0; 675],
+        }
+    }
+}
 
 // What a bound puts out: nothing, the bound, or the clipping half-space and the bound.
 #[derive(Clone, Copy)]
@@ -39,12 +67,4 @@ pub struct Line {
     pub bc: i64,
     pub bd: i64,
     pub cd: i64,
-}
-
-// What a clip leaves: the polygon as it was, a polygon of so many corners in the second table, or nothing.
-#[derive(Clone, Copy)]
-pub enum Clipped {
-    Same,
-    Cut(usize),
-    Gone,
 }

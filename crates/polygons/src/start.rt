@@ -1,14 +1,15 @@
 // The start of a section: the support's rectangle in the box.
-ghost use Rattle.std.specs.Prelude.{◌≡◌, true, [], ◌∷◌, ◌<◌, ◌≤◌, leb, length};
+ghost use Rattle.std.specs.Prelude.{◌≡◌, true, [], ◌∷◌, ◌++◌, ◌+◌, ◌<◌, ◌≤◌, leb, length};
 ghost use Rattle.whole.specs.Tests.{◌and◌};
-ghost use Rattle.scope.specs.Planes.{in_range};
+ghost use Rattle.scope.specs.Planes.{in_range, meet};
 ghost use Rattle.scope.specs.Section.{way as the-way, rest};
-ghost use Rattle.theory.specs.Section.{corners};
+ghost use Rattle.theory.specs.Section.{corner, corners};
 ghost use Rattle.planes.specs.Values.{plane};
 ghost use Rattle.polygons.specs.Values.{way_code, way_of, way_from, starts};
 ghost use Rattle.polygons.specs.Tables.{box_side, look, read};
 ghost use Rattle.polygons.specs.Asked.{Polygon, Supported};
 
+use crate::Halves;
 use crate::clipping::clip_on;
 use crate::table::{box_side, put};
 use planes::{Plane, size};
@@ -47,19 +48,25 @@ pub fn way(s: Plane) -> usize
     by_sign(s.c, 4)
 }
 
+// Puts corner i of the start into t: that of the side of the box of index k, which comes after the side of index j.
+#[inline(always)]
+pub fn edge(s: Plane, j: usize, k: usize, t: &mut [i64], i: usize)
+    requires { (in_range (plane s) ≡ true) × (j < 6) × (k < 6) × (i < 4) × (20 ≤ length t.old) }
+    ensures { read t.new (i + 1) ≡ read t.old i ++ corner k (meet (plane s) (box_side j) (box_side k)) ∷ [] }
+{
+    put(t, i, k, planes::minors(s, box_side(j), box_side(k)));
+}
+
 // Puts the corners of four sides of the box, given by their indices, into t.
+#[inline(always)]
 pub fn four(s: Plane, a: usize, b: usize, c: usize, d: usize, t: &mut [i64])
     requires { (in_range (plane s) ≡ true) × (a < 6) × (b < 6) × (c < 6) × (d < 6) × (20 ≤ length t.old) }
     ensures { read t.new 4 ≡ corners (plane s) box_side (a ∷ b ∷ c ∷ d ∷ []) }
 {
-    let p = box_side(a);
-    let q = box_side(b);
-    let r = box_side(c);
-    let u = box_side(d);
-    put(t, 0, a, planes::minors(s, u, p));
-    put(t, 1, b, planes::minors(s, p, q));
-    put(t, 2, c, planes::minors(s, q, r));
-    put(t, 3, d, planes::minors(s, r, u));
+    edge(s, d, a, t, 0);
+    edge(s, a, b, t, 1);
+    edge(s, b, c, t, 2);
+    edge(s, c, d, t, 3);
 }
 
 // Puts the four corners of the start into t.
@@ -79,13 +86,13 @@ pub fn begin(s: Plane, w: usize, t: &mut [i64])
 }
 
 // The start, clipped by the remaining axis's minus and plus plane, k and k + 1: how many corners it has.
-pub fn opened(s: Plane, hs: &[i64], width: usize, t: &mut [i64], out: &mut [i64]) -> usize
+pub fn opened(s: Plane, hs: &Halves, t: &mut [i64], out: &mut [i64]) -> usize
     requires { Supported (plane s) t.old out.old }
-    ensures { Polygon (plane s) (look hs.now width) 6 (rest (the-way (plane s))) t.new result }
+    ensures { Polygon (plane s) (look hs.now.numbers.now hs.now.width) 6 (rest (the-way (plane s))) t.new result }
 {
     let w = way(s);
     begin(s, w, t);
     let k = w / 2 * 2;
-    let n = clip_on(s, hs, width, k, t, 4, out);
-    clip_on(s, hs, width, k + 1, t, n, out)
+    let n = clip_on(s, hs, k, t, 4, out);
+    clip_on(s, hs, k + 1, t, n, out)
 }

@@ -1,103 +1,88 @@
-// Tables: the planes of a row and of an index, the corners of a polygon.
-ghost use Rattle.std.specs.Prelude.{◌≡◌, [], ◌∷◌, ℕ, ◌+◌, ◌*◌, ◌<◌, ◌≤◌, pos, length, get_or};
+// Tables: the half-spaces in rows, the bound of an index, the corners of a polygon.
+ghost use Rattle.std.specs.Prelude.{◌≡◌, [], ◌∷◌, ◌+◌, ◌*◌, ◌<◌, ◌≤◌, pos, length};
 ghost use Rattle.std.proofs.lemmas.List.Edits.{sets};
-ghost use Rattle.scope.specs.Answers.{flat_planes};
 ghost use Rattle.theory.specs.Section.{index, vertex};
 ghost use Rattle.theory.specs.Section.Witness.{added as the-added};
 ghost use Rattle.planes.specs.Values.{plane, meeting};
 ghost use Rattle.polygons.specs.Tables.{row as the_row, box_side, look, corner_at};
-ghost use Rattle.polygons.specs.Asked.{Found, CornerIn, AddedIn};
+ghost use Rattle.polygons.specs.Asked.{Found, CornerIn, SummedIn, AddedIn};
 
+use crate::Halves;
 use planes::{Meeting, Plane};
 
-// The half-space in row i, of rows that are width numbers apart.
-pub fn row(hs: &[i64], width: usize, i: usize) -> Plane
-    requires { i * width + 4 ≤ length hs.now }
-    ensures { plane result ≡ the_row hs.now width i }
-{
-    let at = i * width;
-    Plane {
-        a: hs[at],
-        b: hs[at + 1],
-        c: hs[at + 2],
-        d: hs[at + 3],
+impl Halves<'_> {
+    // The half-space in row i.
+    #[tactic(auto, unfolding(crate::specs::Tables::row))]
+    pub fn row(&self, i: usize) -> Plane
+        requires { i * self.now.width + 4 ≤ length self.now.numbers.now }
+        ensures { plane result ≡ the_row self.now.numbers.now self.now.width i }
+    {
+        Plane::load(self.numbers, i * self.width)
+    }
+
+    // The bound of an index.
+    #[tactic(auto, using(crate::proofs::Cells::look_box, crate::proofs::Cells::look_row))]
+    pub fn bound(&self, k: usize) -> Plane
+        requires { Found self.now.numbers.now self.now.width k }
+        ensures { plane result ≡ look self.now.numbers.now self.now.width k }
+    {
+        if k < 6 {
+            return box_side(k);
+        }
+        self.row(k - 6)
     }
 }
 
-// A side of the box. By a match: a constant table would be built anew on the stack at each call.
+// The sides of the box: x-, x+, y-, y+, z-, z+.
+static BOX: [Plane; 6] = [
+    Plane {
+        a: 1,
+        b: 0,
+        c: 0,
+        d: 30000,
+    },
+    Plane {
+        a: -1,
+        b: 0,
+        c: 0,
+        d: 30000,
+    },
+    Plane {
+        a: 0,
+        b: 1,
+        c: 0,
+        d: 30000,
+    },
+    Plane {
+        a: 0,
+        b: -1,
+        c: 0,
+        d: 30000,
+    },
+    Plane {
+        a: 0,
+        b: 0,
+        c: 1,
+        d: 30000,
+    },
+    Plane {
+        a: 0,
+        b: 0,
+        c: -1,
+        d: 30000,
+    },
+];
+
+// A side of the box.
 pub fn box_side(k: usize) -> Plane
     requires { k < 6 }
     ensures { plane result ≡ box_side k }
 {
-    match k {
-        0 => Plane {
-            a: 1,
-            b: 0,
-            c: 0,
-            d: 30000,
-        },
-        1 => Plane {
-            a: -1,
-            b: 0,
-            c: 0,
-            d: 30000,
-        },
-        2 => Plane {
-            a: 0,
-            b: 1,
-            c: 0,
-            d: 30000,
-        },
-        3 => Plane {
-            a: 0,
-            b: -1,
-            c: 0,
-            d: 30000,
-        },
-        4 => Plane {
-            a: 0,
-            b: 0,
-            c: 1,
-            d: 30000,
-        },
-        _ => Plane {
-            a: 0,
-            b: 0,
-            c: -1,
-            d: 30000,
-        },
-    }
-}
-
-// The bound of an index.
-pub fn bound(hs: &[i64], width: usize, k: usize) -> Plane
-    requires { Found hs.now width k }
-    ensures { plane result ≡ look hs.now width k }
-{
-    if k < 6 {
-        return box_side(k);
-    }
-    row(hs, width, k - 6)
-}
-
-// Writes the bound of an index into row i.
-pub fn write_row(hs: &[i64], k: usize, bounds: &mut [i64], i: usize)
-    requires { Found hs.now 4 k × (4 * i + 4 ≤ length bounds.old) }
-    ensures { bounds.new ≡ sets bounds.old (4 * i) (flat_planes (look hs.now 4 k ∷ [])) }
-{
-    let p = bound(hs, 4, k);
-    let at = 4 * i;
-    let a = p.a;
-    let b = p.b;
-    let c = p.c;
-    let d = p.d;
-    bounds[at] = a;
-    bounds[at + 1] = b;
-    bounds[at + 2] = c;
-    bounds[at + 3] = d;
+    BOX[k]
 }
 
 // The index of corner i.
+#[tactic(auto, unfolding(crate::specs::Tables::corner_at))]
 pub fn index_at(t: &[i64], i: usize) -> usize
     requires { CornerIn t.now i }
     ensures { result ≡ index (corner_at t.now i) }
@@ -107,6 +92,7 @@ pub fn index_at(t: &[i64], i: usize) -> usize
 }
 
 // The vertex of corner i.
+#[tactic(auto, unfolding(crate::specs::Tables::corner_at))]
 pub fn vertex_at(t: &[i64], i: usize) -> Meeting
     requires { 5 * i + 5 ≤ length t.now }
     ensures { meeting result ≡ vertex (corner_at t.now i) }
@@ -126,25 +112,24 @@ pub fn put(t: &mut [i64], i: usize, k: usize, m: Meeting)
     ensures { t.new ≡ sets t.old (5 * i) (pos k ∷ m.x ∷ m.y ∷ m.z ∷ m.w ∷ []) }
 {
     let at = 5 * i;
-    let x = m.x;
-    let y = m.y;
-    let z = m.z;
-    let w = m.w;
     t[at] = k as i64;
-    t[at + 1] = x;
-    t[at + 2] = y;
-    t[at + 3] = z;
-    t[at + 4] = w;
+    t[at + 1] = m.x;
+    t[at + 2] = m.y;
+    t[at + 3] = m.z;
+    t[at + 4] = m.w;
 }
 
-// The first n numbers of one table, copied to another.
-pub fn copy(from: &[i64], to: &mut [i64], n: usize)
-    requires { (n ≤ length from.now) × (n ≤ length to.old) }
-    ensures { (j : ℕ) → j < n → get_or to.new j (pos 0) ≡ get_or from.now j (pos 0) }
+// Three vertices, added: each sum is at most 1.8*10^15 in size, and 1.8*10^10 for w.
+#[tactic(auto, using(crate::proofs::Sums::two_fit, crate::proofs::Sums::three_fit))]
+pub fn sum(p: Meeting, q: Meeting, r: Meeting) -> Meeting
+    requires { SummedIn (meeting p) (meeting q) (meeting r) }
+    ensures { meeting result ≡ the-added (meeting p) (meeting q) (meeting r) }
 {
-    for i in 0..n {
-        let x = from[i];
-        to[i] = x;
+    Meeting {
+        x: p.x + q.x + r.x,
+        y: p.y + q.y + r.y,
+        z: p.z + q.z + r.z,
+        w: p.w + q.w + r.w,
     }
 }
 
@@ -153,10 +138,5 @@ pub fn added(t: &[i64]) -> Meeting
     requires { AddedIn t.now }
     ensures { meeting result ≡ the-added (vertex (corner_at t.now 0)) (vertex (corner_at t.now 1)) (vertex (corner_at t.now 2)) }
 {
-    Meeting {
-        x: t[1] + t[6] + t[11],
-        y: t[2] + t[7] + t[12],
-        z: t[3] + t[8] + t[13],
-        w: t[4] + t[9] + t[14],
-    }
+    sum(vertex_at(t, 0), vertex_at(t, 1), vertex_at(t, 2))
 }

@@ -1,15 +1,13 @@
 -- The operands' tables, read through the joined list: at each code stands the tree that the tables are of.
---     planes_all        the planes of a flat table are those that it was made of
 --     stands_at         a subtree of a tree whose rows are in the table
 --     stands_solid      the tree of a solid, at its root code
 use mathlib.Core.Path.{◌≡◌, refl, sym, ap, subst, ◌∙◌}
 use mathlib.Core.List.{List, [], ◌∷◌, ◌++◌, append_assoc, append-nil}
 use mathlib.Core.Option.{some}
-use Prim.Native.Nat.{ℕ, zero, suc, ◌+◌, ◌*◌, ◌/◌, ◌≤◌, ◌<◌}
+use Prim.Native.Nat.{ℕ, suc, ◌+◌, ◌*◌, ◌≤◌, ◌<◌}
 use native.Mathlib.Omega.{arith}
 use lib.IntN.{ℤ}
-use lib.ListN.{length, length-append, get_or, get_elem?, take}
-use lib.Seq.{take-suc, take-length}
+use lib.ListN.{length, length-append, get_or, get_elem?}
 use Rattle.whole.specs.Members.{◌∈◌, here, there, in_left, in_right, elem_small}
 use Rattle.scope.specs.Planes.{Plane}
 use Rattle.scope.specs.Solids.{IN, OUT, Tree, leaf, node, rows, planes, code, number, Row, post, place, Entry, entry, entries, ascending, tables_of}
@@ -19,39 +17,15 @@ use Rattle.theory.specs.Text.Filled.{planes_count, nodes_count}
 use Rattle.theory.specs.Text.Rows.{post_length}
 use Rattle.theory.specs.Text.Stacks.{last_row, entries_node, rows_length}
 use Rattle.theory.specs.Text.Lent.{FlatParts}
-use Rattle.tables.specs.Rows.{plane_at, entry_at, planes_to}
+use Rattle.tables.specs.Rows.{plane_at, entry_at}
 use Rattle.tables.specs.Promises.{SolidOf}
 use Rattle.tables.proofs.Flats.{flat_plane, flat_entry}
-use Rattle.walks.specs.Standing.{list, plane_number, RowIs, Stands, at_mark, at_row}
-
--- ---- the planes of a flat table
-
-plane_flat : (ps : List Plane) (i : ℕ) (d : Plane) → i < length ps → plane_at (flat_planes ps) i ≡ get_or ps i d
-plane_flat ps i d l = flat_plane ps i (get_or ps i d) (found ps i l)
-  where
-    found : (ps : List Plane) (i : ℕ) → i < length ps → get_elem? ps i ≡ some (get_or ps i d)
-    found [] i l = absurd (omega (arith, l))
-    found (p ∷ ps) zero l = refl
-    found (p ∷ ps) (suc i) l = found ps i (omega (arith, l))
-
-planes_first : (ps : List Plane) (i : ℕ) → i ≤ length ps → planes_to (flat_planes ps) i ≡ take i ps
-unfolding planes_to
-planes_first ps zero l = refl
-planes_first [] (suc i) l = absurd (omega (arith, l))
-planes_first (p ∷ ps) (suc i) l = (λ t. planes_first (p ∷ ps) i (omega (arith, l)) t ++ (plane_flat (p ∷ ps) i p (omega (arith, l)) t ∷ [])) ∙ sym (take-suc (p ∷ ps) i p (omega (arith, l)))
-
-pub planes_all : (ps : List Plane) → planes_to (flat_planes ps) (length ps) ≡ ps
-planes_all ps = planes_first ps (length ps) (omega arith) ∙ take-length ps
-
-pub list_flat : {xs : List ℤ} (ps : List Plane) → xs ≡ flat_planes ps → list xs ≡ ps
-list_flat {xs} ps e = (λ i. planes_to (e i) ((rows_are i))) ∙ planes_all ps
-  where
-    rows_are : length xs / 4 ≡ length ps
-    rows_are = omega (arith, ap length e, planes_count ps)
+use Rattle.lists.proofs.Rows.{planes_back}
+use Rattle.walks.specs.Standing.{plane_number, RowIs, Stands, at_mark, at_row}
 
 -- ---- what stands
 
-entries_size : (ps : List Plane) (n : ℕ) (t : Tree) → length (entries ps (post n t)) ≡ rows t
+pub entries_size : (ps : List Plane) (n : ℕ) (t : Tree) → length (entries ps (post n t)) ≡ rows t
 entries_size ps n t = count (post n t) ∙ post_length n t
   where
     count : (rs : List Row) → length (entries ps rs) ≡ length rs
@@ -85,8 +59,8 @@ module _ (P J : List Plane) (numbers : List ℕ) (o : ℕ) (k : Numbered P J num
       numbered = omega (arith, k.room, first_is, elem_small P (place P p) {p = p} (place_at m));
       there = omega (arith, number_here, ap length ex, planes_count J, elem_small J (place J p) {p = p} (place_at (k.sub p m)));
       plane = ap (plane_at xs) number_here ∙ ap (λ l. plane_at l (place J p)) ex ∙ flat_plane J (place J p) p (place_at (k.sub p m));
-      place = number_here ∙ ap (λ l. place l p) (sym (list_flat J ex));
-      member = subst (λ l. p ∈ l) (sym (list_flat J ex)) (k.sub p m);
+      place = number_here ∙ ap (λ l. place l p) (sym (planes_back J ex));
+      member = subst (λ l. p ∈ l) (sym (planes_back J ex)) (k.sub p m);
       front_less = subst (λ c. c < 65534 → c < r) (sym second_is) lf;
       back_less = subst (λ c. c < 65534 → c < r) (sym third_is) lb;
     },
@@ -133,22 +107,13 @@ module _ (P J : List Plane) (numbers : List ℕ) (o : ℕ) (k : Numbered P J num
       parts = e ∙ ap (λ l. before ++ (l ++ after)) (entries_node P n p f b)
 
       own : es ≡ (before ++ (ef ++ eb)) ++ (last ∷ after)
-      own = parts ∙ regroup before ef eb (last ∷ [])
-        where
-          regroup : (u v w x : List Entry) → u ++ (((v ++ w) ++ x) ++ after) ≡ (u ++ (v ++ w)) ++ (x ++ after)
-          regroup u v w x = simp append_assoc
+      own = parts ∙ simp append_assoc
 
       front : es ≡ before ++ (ef ++ (eb ++ (last ∷ after)))
-      front = parts ∙ regroup before ef eb (last ∷ [])
-        where
-          regroup : (u v w x : List Entry) → u ++ (((v ++ w) ++ x) ++ after) ≡ u ++ (v ++ (w ++ (x ++ after)))
-          regroup u v w x = simp append_assoc
+      front = parts ∙ simp append_assoc
 
       back : es ≡ (before ++ ef) ++ (eb ++ (last ∷ after))
-      back = parts ∙ regroup before ef eb (last ∷ [])
-        where
-          regroup : (u v w x : List Entry) → u ++ (((v ++ w) ++ x) ++ after) ≡ (u ++ v) ++ (w ++ (x ++ after))
-          regroup u v w x = simp append_assoc
+      back = parts ∙ simp append_assoc
 
       index : length (before ++ (ef ++ eb)) ≡ n + rows f + rows b
       index = length-append before (ef ++ eb) ∙ omega (arith, c, length-append ef eb, entries_size P n f, entries_size P (n + rows f) b)

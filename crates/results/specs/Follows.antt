@@ -3,7 +3,7 @@
 --     told_refusal      a number is given only when it is right, and leaves every table all zeros
 --     given_tree        tables that are given are those of the tree, and within the limits
 --     tree_given        a solid that is given for a tree: its counts, and its rows in the lent tables
-use Rattle.std.specs.Prelude.{◌≡◌, refl, List, Bool, true, false, cond, ℕ, ◌-◌, ◌≤◌, leb, ℤ, pos, length, replicate}
+use Rattle.std.specs.Prelude.{◌≡◌, refl, List, Bool, true, false, cond, ℕ, ◌-◌, ◌≤◌, leb, ℤ, pos, length, replicate, Result, Ok, Err}
 use Rattle.std.proofs.Common.{sym, ap, subst, ◌∙◌, arith, leb-true}
 use Rattle.whole.specs.Tests.{◌and◌, and_true, differ}
 use Rattle.scope.specs.Limits.{most_planes, most_nodes}
@@ -12,7 +12,8 @@ use Rattle.scope.specs.Judging.{Rooms}
 use Rattle.scope.specs.Answers.{Answer, given, refused, plane_numbers, node_numbers, filled, left, fits_rooms, tree_answer}
 use Rattle.tables.specs.declared.Solid.{Solid}
 use Rattle.theory.specs.Answers.{merge_answer_unique, form_answer_unique}
-use Rattle.results.specs.declared.Given as Given
+use Rattle.refusals.specs.declared.Refusal as code
+use Rattle.refusals.specs.Numbers.{numbered, numbered_unique}
 use Rattle.results.specs.Results.{Asked, merge_of, form_of, Right, rooms, given_of, Told}
 
 right_unique : (q : Asked) (work : ℕ) (s : Rooms) {a b : Answer Tables} → Right q work s a → Right q work s b → a ≡ b
@@ -20,10 +21,10 @@ right_unique (merge_of o A B) work s = merge_answer_unique s o A B
 right_unique (form_of A) work s = form_answer_unique s A
 
 module _ {q : Asked} {xs : List ℤ} {ns : List ℕ} {w : List ℤ} where
-  pub told_unique : {xs' xs'' : List ℤ} {ns' ns'' : List ℕ} {w' w'' : List ℤ} {i j : Given.Given} → Told q xs xs' ns ns' w w' i → Told q xs xs'' ns ns'' w w'' j → (i ≡ j) × (xs' ≡ xs'') × (ns' ≡ ns'') × (w' ≡ w'')
+  pub told_unique : {xs' xs'' : List ℤ} {ns' ns'' : List ℕ} {w' w'' : List ℤ} {i j : Result Solid code.Refusal} → Told q xs xs' ns ns' w w' (numbered i) → Told q xs xs'' ns ns'' w w'' (numbered j) → (i ≡ j) × (xs' ≡ xs'') × (ns' ≡ ns'') × (w' ≡ w'')
   told_unique h k =
       let e : h.answer ≡ k.answer = right_unique q (length w) (rooms xs ns) h.exact k.exact in
-      (h.told ∙ ap given_of e ∙ sym k.told, h.planes ∙ ap (left (pos 0) (length xs) plane_numbers) e ∙ sym k.planes, h.nodes ∙ ap (left 0 (length ns) node_numbers) e ∙ sym k.nodes, h.work ∙ sym k.work)
+      (numbered_unique (h.told ∙ ap given_of e ∙ sym k.told), h.planes ∙ ap (left (pos 0) (length xs) plane_numbers) e ∙ sym k.planes, h.nodes ∙ ap (left 0 (length ns) node_numbers) e ∙ sym k.nodes, h.work ∙ sym k.work)
 
 -- ---- a refusal
 
@@ -34,12 +35,12 @@ pub record Refusal (q : Asked) (xs xs' : List ℤ) (ns ns' : List ℕ) (w w' : L
   pub work : w' ≡ replicate (length w) (pos 0)
 
 -- an answer that is told as a number is its refusal
-pub refused_by : {r : Given.Given} {k : ℕ} (a : Answer Tables) → r ≡ Given.TheVariants.Refused k → r ≡ given_of a → a ≡ refused k
-refused_by {r} {k} (given (tables ps es q)) e f = let d : Given.TheVariants.Refused k ≡ given_of (given (tables ps es q)) = sym e ∙ f in differ (cc)
-refused_by {r} {k} (refused n) e f = let d : Given.TheVariants.Refused k ≡ Given.TheVariants.Refused n = sym e ∙ f in cc
+pub refused_by : {r : Result Solid ℕ} {k : ℕ} (a : Answer Tables) → r ≡ Err k → r ≡ given_of a → a ≡ refused k
+refused_by {r} {k} (given (tables ps es q)) e f = let d : Err k ≡ given_of (given (tables ps es q)) = sym e ∙ f in differ (cc)
+refused_by {r} {k} (refused n) e f = let d : Err k ≡ Err n = sym e ∙ f in cc
 
 module _ {q : Asked} {xs xs' : List ℤ} {ns ns' : List ℕ} {w w' : List ℤ} {k : ℕ} where
-  pub told_refusal : Told q xs xs' ns ns' w w' (Given.TheVariants.Refused k) → Refusal q xs xs' ns ns' w w' k
+  pub told_refusal : Told q xs xs' ns ns' w w' (Err k) → Refusal q xs xs' ns ns' w w' k
   told_refusal h = record { when = subst (Right q (length w) (rooms xs ns)) is h.exact; planes = h.planes ∙ ap (left (pos 0) (length xs) plane_numbers) is ∙ zeros (pos 0) (length xs); nodes = h.nodes ∙ ap (left 0 (length ns) node_numbers) is ∙ zeros 0 (length ns); work = h.work }
     where
       is : h.answer ≡ refused k
@@ -61,13 +62,13 @@ given_tree s t c = by (fits_rooms s t) refl (leb (length (ascending (planes t)))
 
 -- the tables of the tree t, as a call left them
 pub record TreeGiven (t : Tree) (xs xs' : List ℤ) (ns ns' : List ℕ) (s : Solid) : Type 0 where
-  pub counts : Given.TheVariants.Solid s ≡ given_of (given (tables_of t))
+  pub counts : Ok s ≡ given_of (given (tables_of t))
   pub plane_rows : xs' ≡ filled (pos 0) (length xs) (plane_numbers (tables_of t))
   pub node_rows : ns' ≡ filled 0 (length ns) (node_numbers (tables_of t))
 
-module _ {q : Asked} {xs xs' : List ℤ} {ns ns' : List ℕ} {w w' : List ℤ} {s : Solid} (h : Told q xs xs' ns ns' w w' (Given.TheVariants.Solid s)) where
+module _ {q : Asked} {xs xs' : List ℤ} {ns ns' : List ℕ} {w w' : List ℤ} {s : Solid} (h : Told q xs xs' ns ns' w w' (Ok s)) where
   pub not_refused : {k : ℕ} → h.answer ≡ refused k → ⊥
-  not_refused {k} e = let d : Given.TheVariants.Solid s ≡ Given.TheVariants.Refused k = h.told ∙ ap given_of e in differ (cc)
+  not_refused {k} e = let d : Ok s ≡ Err k = h.told ∙ ap given_of e in differ (cc)
 
   pub tree_given : (t : Tree) → h.answer ≡ tree_answer (rooms xs ns) t → TreeGiven t xs xs' ns ns' s
   tree_given t e = by h.answer refl

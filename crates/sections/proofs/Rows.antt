@@ -2,7 +2,6 @@
 use mathlib.Core.Path.{◌≡◌, refl, sym, ap, ◌∙◌}
 use mathlib.Core.Bool.{Bool, true, false}
 use mathlib.Core.List.{List, [], ◌∷◌, ◌++◌, map}
-use mathlib.Core.Option.{Option, none, some}
 use Prim.Native.Nat.{ℕ, zero, suc, ◌+◌, ◌-◌, ◌*◌, ◌≤◌, ◌<◌}
 use native.Mathlib.Nat.{zero-add}
 use native.Mathlib.Numerals.{add-one}
@@ -10,46 +9,14 @@ use native.Mathlib.Omega.{arith}
 use lib.IntN.{ℤ, pos}
 use lib.ListN.{length, drop, replicate, length-replicate}
 use lib.Seq.{sets, sets-eq}
-use Rattle.whole.specs.Tests.{◌and◌, differ, and_true}
+use Rattle.whole.specs.Tests.{◌and◌, and_true}
 use Rattle.whole.specs.Lists.{map_app, map_length}
-use Rattle.scope.specs.Planes.{Plane, Fault, half_fault}
+use Rattle.scope.specs.Planes.{Plane, half_fault}
 use Rattle.scope.specs.Answers.{no_fault, no_faults, flat_planes}
 use Rattle.theory.specs.Section.{index}
-use Rattle.planes.specs.Values.{quad}
-use Rattle.planes.specs.Promises.{made_by}
-use Rattle.planes.specs.declared.MadePlane as MadePlane
-use Rattle.sections.specs.declared.Lawful.{Lawful}
-use Rattle.sections.specs.declared.Lawful.TheVariants.{Yes, No}
-use Rattle.sections.specs.Values.{lawful_is}
 use Rattle.polygons.specs.Tables.{row, corner_at, read, indices, rows_to}
 use Rattle.polygons.proofs.Cells.{sets_append}
 use Rattle.polygons.proofs.Clips.{indices_length}
-
--- ---- whether a half-space is lawful
-
-made_yes : (a b c d : ℤ) (o : Option Fault) (p : _) → MadePlane.TheVariants.Made p ≡ made_by a b c d o → Yes ≡ lawful_is (no_fault o)
-made_yes a b c d none p e = refl
-made_yes a b c d (some f) p e = differ (cc)
-
-made_no : (a b c d : ℤ) (o : Option Fault) (f : _) → MadePlane.TheVariants.Faulty f ≡ made_by a b c d o → No ≡ lawful_is (no_fault o)
-made_no a b c d none f e = differ (cc)
-made_no a b c d (some g) f e = refl
-
-module _ {a b c d a' b' c' d' : ℤ} (q : quad a b c d ≡ quad a' b' c' d') {r : MadePlane.MadePlane} (e : r ≡ made_by a b c d (half_fault (quad a b c d))) where
-  pub half_yes : (p : _) → r ≡ MadePlane.TheVariants.Made p → Yes ≡ lawful_is (no_fault (half_fault (quad a' b' c' d')))
-  half_yes p f = made_yes a b c d (half_fault (quad a b c d)) p (sym f ∙ e) ∙ ap (λ x. lawful_is (no_fault (half_fault x))) q
-
-  pub half_no : (g : _) → r ≡ MadePlane.TheVariants.Faulty g → No ≡ lawful_is (no_fault (half_fault (quad a' b' c' d')))
-  half_no g f = made_no a b c d (half_fault (quad a b c d)) g (sym f ∙ e) ∙ ap (λ x. lawful_is (no_fault (half_fault x))) q
-
--- the answer as a test
-pub said_yes : (b : Bool) {r : Lawful} → r ≡ lawful_is b → r ≡ Yes → b ≡ true
-said_yes true e f = refl
-said_yes false e f = differ (cc)
-
-pub said_no : (b : Bool) {r : Lawful} → r ≡ lawful_is b → r ≡ No → b ≡ false
-said_no true e f = differ (cc)
-said_no false e f = refl
 
 -- ---- whether all are
 
@@ -69,23 +36,23 @@ and_false : (b : Bool) → (b and false) ≡ false
 and_false true = refl
 and_false false = refl
 
-module _ (hs : List ℤ) where
+module _ (hs : List ℤ) (width : ℕ) where
   abbrev lawful_to : ℕ → Bool
-  lawful_to i = no_faults (rows_to hs 4 i)
+  lawful_to i = no_faults (rows_to hs width i)
 
   pub lawful_none : lawful_to 0 ≡ true
   unfolding rows_to
   lawful_none = refl
 
-  lawful_suc : (i : ℕ) → lawful_to (suc i) ≡ (lawful_to i and no_fault (half_fault (row hs 4 i)))
+  lawful_suc : (i : ℕ) → lawful_to (suc i) ≡ (lawful_to i and no_fault (half_fault (row hs width i)))
   unfolding rows_to
-  lawful_suc i = faults_snoc (rows_to hs 4 i) (row hs 4 i)
+  lawful_suc i = faults_snoc (rows_to hs width i) (row hs width i)
 
-  pub lawful_more : (i : ℕ) → lawful_to i ≡ true → no_fault (half_fault (row hs 4 i)) ≡ true → lawful_to (i + 1) ≡ true
+  pub lawful_more : (i : ℕ) → lawful_to i ≡ true → no_fault (half_fault (row hs width i)) ≡ true → lawful_to (i + 1) ≡ true
   lawful_more i e f = ap lawful_to (add-one i) ∙ lawful_suc i ∙ (λ j. e j and f j)
 
   -- one that is not makes all that follow it not
-  pub unlawful_more : (i d n : ℕ) → i + 1 + d ≡ n → no_fault (half_fault (row hs 4 i)) ≡ false → lawful_to n ≡ false
+  pub unlawful_more : (i d n : ℕ) → i + 1 + d ≡ n → no_fault (half_fault (row hs width i)) ≡ false → lawful_to n ≡ false
   unlawful_more i d zero q e = absurd (omega arith)
   unlawful_more i zero (suc n) q e = let f : i ≡ n = omega arith in lawful_suc n ∙ rw (← f, e) (and_false (lawful_to i))
   unlawful_more i (suc d) (suc n) q e = lawful_suc n ∙ rw (unlawful_more i d n (omega arith) e)
@@ -102,19 +69,19 @@ unlawful_rows s hs e = rw e (and_false (no_fault (half_fault s)))
 
 -- ---- what lawful planes have
 
-module _ (s : Plane) (hs : List ℤ) where
+module _ (s : Plane) (hs : List ℤ) (width : ℕ) where
   -- of the support, and of each row
-  pub lawful_support : (n : ℕ) → no_faults (s ∷ rows_to hs 4 n) ≡ true → no_fault (half_fault s) ≡ true
-  lawful_support n e = (and_true (no_fault (half_fault s)) (no_faults (rows_to hs 4 n)) e).0
+  pub lawful_support : (n : ℕ) → no_faults (s ∷ rows_to hs width n) ≡ true → no_fault (half_fault s) ≡ true
+  lawful_support n e = (and_true (no_fault (half_fault s)) (no_faults (rows_to hs width n)) e).0
 
-  pub lawful_row : (n : ℕ) → no_faults (rows_to hs 4 n) ≡ true → (i : ℕ) → i < n → no_fault (half_fault (row hs 4 i)) ≡ true
+  pub lawful_row : (n : ℕ) → no_faults (rows_to hs width n) ≡ true → (i : ℕ) → i < n → no_fault (half_fault (row hs width i)) ≡ true
   unfolding rows_to
   lawful_row zero e i l = absurd (omega arith)
   lawful_row (suc n) e i l =
-      let b = and_true (no_faults (rows_to hs 4 n)) (no_fault (half_fault (row hs 4 n))) (sym (faults_snoc (rows_to hs 4 n) (row hs 4 n)) ∙ e) in
+      let b = and_true (no_faults (rows_to hs width n)) (no_fault (half_fault (row hs width n))) (sym (faults_snoc (rows_to hs width n) (row hs width n)) ∙ e) in
       by (n - i) refl b.1 (λ m. lawful_row n b.0 i m)
     where
-      by : (j : ℕ) → n - i ≡ j → no_fault (half_fault (row hs 4 n)) ≡ true → (i < n → no_fault (half_fault (row hs 4 i)) ≡ true) → no_fault (half_fault (row hs 4 i)) ≡ true
+      by : (j : ℕ) → n - i ≡ j → no_fault (half_fault (row hs width n)) ≡ true → (i < n → no_fault (half_fault (row hs width i)) ≡ true) → no_fault (half_fault (row hs width i)) ≡ true
       by zero q f g = let p : i ≡ n = omega arith in rw p f
       by (suc j) q f g = g (omega arith)
 

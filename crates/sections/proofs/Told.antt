@@ -18,8 +18,7 @@ use Rattle.scope.specs.Answers.{Answer, given, refused, no_fault, no_faults, fla
 use Rattle.theory.specs.Section.{index}
 use Rattle.planes.specs.Values.{quad, plane}
 use Rattle.planes.specs.declared.Plane as struct
-use Rattle.sections.specs.declared.Sectioned.{Sectioned}
-use Rattle.sections.specs.declared.Sectioned.TheVariants.{Polygon as Bounds, Nothing, Refused}
+use Rattle.std.specs.Prelude.{Option, None, Some, Result, Ok, Err}
 use Rattle.sections.specs.Values.{section_of}
 use Rattle.polygons.specs.Tables.{row, look, corner_at, indices, rows_to}
 use Rattle.polygons.specs.Asked.{Region, Polygon}
@@ -132,23 +131,23 @@ pub by_given : (room : ℕ) (bs : List Plane) → length bs ≤ room → bounds_
 by_given room [] l = refl
 by_given room (b ∷ bs) l = let e = le-leb (length (b ∷ bs)) room l in rw e
 
-section_some : (bs : List Plane) (n : ℕ) → length bs ≡ n → (n ≡ 0 → ⊥) → Bounds n ≡ section_of (given bs)
+section_some : (bs : List Plane) (n : ℕ) → length bs ≡ n → (n ≡ 0 → ⊥) → Ok (Some n) ≡ section_of (given bs)
 section_some [] n e f = absurd (f (sym e))
-section_some (b ∷ bs) n e f = ap Bounds (sym e)
+section_some (b ∷ bs) n e f = ap (λ n. Ok (Some n)) (sym e)
 
 module _ (s : struct.Plane) (halves bounds work : List ℤ) where
   zeros : bounds ≡ replicate (length bounds) (pos 0) → bounds ≡ filled (pos 0) (length bounds) []
   zeros z = let e : length bounds ≡ length bounds - 0 = omega arith in z ∙ ap (λ n. replicate n (pos 0)) e
 
-  pub drawn_refused : (m : ℕ) → bounds ≡ replicate (length bounds) (pos 0) → answer_to s halves bounds work ≡ refused m → Drawn s halves bounds bounds work (Refused m)
+  pub drawn_refused : (m : ℕ) → bounds ≡ replicate (length bounds) (pos 0) → answer_to s halves bounds work ≡ refused m → Drawn s halves bounds bounds work (Err m)
   drawn_refused m z e = record { answer = ap section_of (sym e); bounds_left = zeros z ∙ ap (left (pos 0) (length bounds) flat_planes) (sym e) }
 
-  pub drawn_nothing : bounds ≡ replicate (length bounds) (pos 0) → answer_to s halves bounds work ≡ given [] → Drawn s halves bounds bounds work Nothing
+  pub drawn_nothing : bounds ≡ replicate (length bounds) (pos 0) → answer_to s halves bounds work ≡ given [] → Drawn s halves bounds bounds work (Ok None)
   unfolding flat_planes
   drawn_nothing z e = record { answer = ap section_of (sym e); bounds_left = zeros z ∙ ap (left (pos 0) (length bounds) flat_planes) (sym e) }
 
   pub drawn_bounds : (bounds' : List ℤ) (bs : List Plane) (n : ℕ) → bounds ≡ replicate (length bounds) (pos 0) → answer_to s halves bounds work ≡ given bs → length bs ≡ n → (n ≡ 0 → ⊥) → 4 * n ≤ length bounds
-      → bounds' ≡ sets bounds 0 (flat_planes bs) → Drawn s halves bounds bounds' work (Bounds n)
+      → bounds' ≡ sets bounds 0 (flat_planes bs) → Drawn s halves bounds bounds' work (Ok (Some n))
   drawn_bounds bounds' bs n z e l f m w = record {
     answer = section_some bs n l f ∙ ap section_of (sym e);
     bounds_left = w ∙ ap (λ b. sets b 0 (flat_planes bs)) z ∙ sets_zeros (flat_planes bs) (length bounds) (omega (arith, flat_length bs)) ∙ ap (left (pos 0) (length bounds) flat_planes) (sym e);
@@ -158,7 +157,7 @@ module _ (s : struct.Plane) (halves bounds work : List ℤ) where
 
 pub region_rows : (s : Plane) (hs : List ℤ) (rows : ℕ) → rows ≤ 128 → rows * 4 ≤ length hs → no_faults (s ∷ rows_to hs 4 rows) ≡ true → Region s hs 4 (6 + rows)
 region_rows s hs rows l m e =
-    let p = half_in s (lawful_support s hs rows e) in
+    let p = half_in s (lawful_support s hs 4 rows e) in
     let q = (and_true (no_fault (half_fault s)) (no_faults (rows_to hs 4 rows)) e).1 in
     record {
       support = p.0;
@@ -166,7 +165,7 @@ region_rows s hs rows l m e =
       box = omega arith;
       few = omega arith;
       found = λ k b c. omega arith;
-      ranged = λ k b. between hs 4 rows k (λ i u. (half_in (row hs 4 i) (lawful_row s hs rows q i u)).0) b;
+      ranged = λ k b. between hs 4 rows k (λ i u. (half_in (row hs 4 i) (lawful_row s hs 4 rows q i u)).0) b;
     }
 
 -- ---- what the polygon at the end says
@@ -183,7 +182,7 @@ module _ (s : Plane) (plane : ℕ → Plane) (top : ℕ) (hs : List Plane) (t : 
   unfolding scope.section
   end_nothing e = polygon_nothing s plane p e
 
-pub write_in : (s : Plane) (hs : List ℤ) (rows : ℕ) (gs : List Plane) (t : List ℤ) (n : ℕ) (bounds : List ℤ) → Region s hs 4 (6 + rows) → Polygon s (look hs 4) (6 + rows) gs t n → 4 * n ≤ length bounds → WriteIn hs t n bounds
+pub write_in : (s : Plane) (hs : List ℤ) (rows : ℕ) (gs : List Plane) (t : List ℤ) (n : ℕ) (bounds : List ℤ) → Region s hs 4 (6 + rows) → Polygon s (look hs 4) (6 + rows) gs t n → 4 * n ≤ length bounds → WriteIn hs 4 t n bounds
 write_in s hs rows gs t n bounds r p l = record {
   corner_in = λ i m. record { room = omega (arith, p.room); index_small = omega (arith, p.below i m, r.few) };
   found = λ i m. r.found (index (corner_at t i)) (p.below i m);
@@ -196,7 +195,7 @@ pub cleared : (b b' : List ℤ) → b' ≡ replicate (length b) (pos 0) → leng
 cleared b b' e l = e ∙ ap (λ n. replicate n (pos 0)) (sym l)
 
 -- the tables keep their lengths, so the answer by the lengths at the end is that by those at the start
-pub section_told : (s : struct.Plane) (halves bounds zeros : List ℤ) {bounds' : List ℤ} (work worked work' : List ℤ) {r : Sectioned} → length zeros ≡ length bounds → Drawn s halves zeros bounds' work r
+pub section_told : (s : struct.Plane) (halves bounds zeros : List ℤ) {bounds' : List ℤ} (work worked work' : List ℤ) {r : Result (Option ℕ) ℕ} → length zeros ≡ length bounds → Drawn s halves zeros bounds' work r
     → length worked ≡ length work → work' ≡ replicate (length worked) (pos 0) → SectionTold s halves bounds bounds' work work' r
 section_told s halves bounds zeros work worked work' l d k e =
     let f : length worked ≡ length work - 0 = omega arith in

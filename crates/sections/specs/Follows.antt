@@ -3,7 +3,7 @@
 --     half_in            a half-space without fault is in range, and its normal is not zero
 --     section_answered   for a lawful call the answer is the section's bounds, if they have room
 --     nothing_told       a lawful call answers Nothing exactly if no point lies on the plane, strictly in the box and strictly in every half-space
-use Rattle.std.specs.Prelude.{◌≡◌, refl, Bool, true, false, ◌≢◌, ◌↔◌, List, [], ◌∷◌, ◌++◌, ℕ, ◌/◌, ◌≤◌, leb, ℤ, length}
+use Rattle.std.specs.Prelude.{◌≡◌, refl, Option, None, Result, Ok, Bool, true, false, ◌≢◌, ◌↔◌, List, [], ◌∷◌, ◌++◌, ℕ, ◌/◌, ◌≤◌, leb, ℤ, length}
 use Rattle.std.proofs.Common.{sym, ap, ◌∙◌}
 use Rattle.std.proofs.Math.Option.{some}
 use borrow.Author.Tests.{le-leb}
@@ -17,16 +17,16 @@ use Rattle.scope.specs.Answers.{given, refused, no_fault, no_faults, quads, sect
 use Rattle.theory.specs.Section.{section_nothing}
 use Rattle.planes.specs.Values.{plane}
 use Rattle.planes.specs.declared.Plane as struct
-use Rattle.sections.specs.declared.Sectioned.{Sectioned}
-use Rattle.sections.specs.declared.Sectioned.TheVariants.{Nothing}
+use Rattle.refusals.specs.declared.Refusal.{Refusal}
+use Rattle.refusals.specs.Numbers.{numbered, numbered_unique}
 use Rattle.sections.specs.Values.{section_of}
 use Rattle.sections.specs.Promises.{SectionTold}
 
 -- ---- no second answer
 
-module _ {s : struct.Plane} {halves bounds work b₁ b₂ w₁ w₂ : List ℤ} {r₁ r₂ : Sectioned} where
-  pub section_unique : SectionTold s halves bounds b₁ work w₁ r₁ → SectionTold s halves bounds b₂ work w₂ r₂ → (r₁ ≡ r₂) × (b₁ ≡ b₂) × (w₁ ≡ w₂)
-  section_unique h k = (h.answer ∙ sym k.answer, h.bounds_left ∙ sym k.bounds_left, h.work_left ∙ sym k.work_left)
+module _ {s : struct.Plane} {halves bounds work b₁ b₂ w₁ w₂ : List ℤ} {r₁ r₂ : Result (Option ℕ) Refusal} where
+  pub section_unique : SectionTold s halves bounds b₁ work w₁ (numbered r₁) → SectionTold s halves bounds b₂ work w₂ (numbered r₂) → (r₁ ≡ r₂) × (b₁ ≡ b₂) × (w₁ ≡ w₂)
+  section_unique h k = (numbered_unique (h.answer ∙ sym k.answer), h.bounds_left ∙ sym k.bounds_left, h.work_left ∙ sym k.work_left)
 
 -- ---- lawful calls
 
@@ -49,17 +49,17 @@ module _ (s : struct.Plane) (halves bounds work : List ℤ) (hs : List Plane) (w
   normal : lead (plane s) ≢ nought
   normal = (half_in (plane s) (and_true (no_fault (half_fault (plane s))) (no_faults hs) l).0).1
 
-  nothing_of : (room : ℕ) (bs : List Plane) → section_of (bounds_by room bs) ≡ Nothing → bs ≡ []
+  nothing_of : (room : ℕ) (bs : List Plane) → section_of (bounds_by room bs) ≡ Ok None → bs ≡ []
   nothing_of room [] e = refl
   nothing_of room (b ∷ bs) e = by (leb (length (b ∷ bs)) room) refl
     where
       by : (t : Bool) → leb (length (b ∷ bs)) room ≡ t → b ∷ bs ≡ []
-      by true f = let g : section_of (given (b ∷ bs)) ≡ Nothing = rw f at e in differ (cc)
-      by false f = let g : section_of (refused 8) ≡ Nothing = rw f at e in differ (cc)
+      by true f = let g : section_of (given (b ∷ bs)) ≡ Ok None = rw f at e in differ (cc)
+      by false f = let g : section_of (refused 8) ≡ Ok None = rw f at e in differ (cc)
 
-  module _ {b₁ w₁ : List ℤ} {r : Sectioned} (h : SectionTold s halves bounds b₁ work w₁ r) where
-    pub nothing_told : (r ≡ Nothing) ↔ ¬ Cuts (plane s) (hs ++ box)
+  module _ {b₁ w₁ : List ℤ} {r : Result (Option ℕ) Refusal} (h : SectionTold s halves bounds b₁ work w₁ (numbered r)) where
+    pub nothing_told : (r ≡ Ok None) ↔ ¬ Cuts (plane s) (hs ++ box)
     nothing_told = (
-      (λ e. (section_nothing (plane s) hs normal).0 (nothing_of (length bounds / 4) (section (plane s) hs) (ap section_of (sym section_answered) ∙ sym h.answer ∙ e))),
-      (λ c. h.answer ∙ ap section_of section_answered ∙ ap (λ bs. section_of (bounds_by (length bounds / 4) bs)) ((section_nothing (plane s) hs normal).1 c)),
+      (λ e. (section_nothing (plane s) hs normal).0 (nothing_of (length bounds / 4) (section (plane s) hs) (ap section_of (sym section_answered) ∙ sym h.answer ∙ ap numbered e))),
+      (λ c. numbered_unique (h.answer ∙ ap section_of section_answered ∙ ap (λ bs. section_of (bounds_by (length bounds / 4) bs)) ((section_nothing (plane s) hs normal).1 c))),
     )

@@ -3,118 +3,89 @@
 #![tactic(auto)]
 
 ghost use Rattle.std.specs.Prelude.{◌≤◌, ◌<◌, length};
+ghost use Rattle.sections_show.specs.Reads.{Onward};
 
-use frames::{Cursor, Got};
+use frames::Cursor;
 use planes::Plane;
-use sections::Sectioned;
+use prints::Out;
+use refusals::Refusal;
+use std::fmt::{self, Write};
 
-// How far the half-spaces reach, and how many they are.
-#[derive(Clone, Copy)]
-struct Halves {
-    at: usize,
-    count: usize,
-}
-
-fn say(s: &[u8]) {
-    io::write_all(1, s);
-}
-
-// A number and a blank.
-fn number(n: i64) {
-    if n < 0 {
-        say(b"-");
-    }
-    io::print_decimal(1, planes::size(n));
-    say(b" ");
-}
+// ---- printing
 
 // The first n rows of a table, a line each.
-fn rows(bounds: &[i64], n: usize) {
-    let most = bounds.len() / 4;
-    for i in 0..most {
-        if i < n {
-            number(bounds[4 * i]);
-            number(bounds[4 * i + 1]);
-            number(bounds[4 * i + 2]);
-            number(bounds[4 * i + 3]);
-            say(b"\n");
-        }
+fn rows(out: &mut Out, bounds: &[i64], n: usize) -> fmt::Result {
+    for b in bounds.chunks_exact(4).take(n) {
+        writeln!(out, "{} {} {} {} ", b[0], b[1], b[2], b[3])?;
     }
+    Ok(())
 }
 
-fn answer(r: Sectioned, bounds: &[i64]) {
+fn answer(out: &mut Out, r: Result<Option<usize>, Refusal>, bounds: &[i64]) -> fmt::Result {
     match r {
-        Sectioned::Polygon(n) => rows(bounds, n),
-        Sectioned::Nothing => say(b"NOTHING\n"),
-        Sectioned::Refused(k) => {
-            say(b"REFUSED ");
-            io::print_decimal(1, k as u64);
-            say(b"\n");
-        }
+        Ok(Some(n)) => rows(out, bounds, n)?,
+        Ok(None) => writeln!(out, "NOTHING")?,
+        Err(k) => writeln!(out, "REFUSED {}", u8::from(k))?,
     }
-    say(b"--\n");
+    writeln!(out, "--")
 }
 
-// The half-spaces from `at` on, at most 130.
-fn read_halves(text: &[u8], at: usize, halves: &mut [i64]) -> Halves
-    requires { (at ≤ length text.now) × (520 ≤ length halves.old) }
-    ensures { (at ≤ result.at) × (result.at ≤ length text.now) × (result.count ≤ 130) }
+// ---- cases
+
+// The tables of a case. At most 130 half-spaces are read.
+#[derive(Drop)]
+struct Tables {
+    plane: [i64; 4],
+    halves: [i64; 520],
+    bounds: [i64; 540],
+    work: [i64; 4096],
+}
+
+// The half-spaces from a cursor on: where they end, and how many they are.
+fn read_halves(text: &[u8], start: Cursor, halves: &mut [i64; 520]) -> (Cursor, usize)
+    requires { start.at ≤ length text.now }
+    ensures { (start.at ≤ result.0.at) × (result.0.at ≤ length text.now) × (result.1 ≤ 130) }
 {
-    let mut next = at;
-    let mut count: usize = 0;
-    while count < 130 {
-        let Got::At(c) = frames::plane_at(text, Cursor { at: next }, halves, count) else {
-            return Halves { at: next, count };
+    let mut c = start;
+    for count in 0..130 {
+        let Ok(next) = frames::plane_at(text, c, halves, count) else {
+            return (c, count);
         };
-        next = c.at;
-        count += 1;
+        c = next;
     }
-    Halves { at: next, count }
+    (c, 130)
 }
 
-// The case at `at`, run: where the next one begins. A text that is no case ends the run.
-fn case(
-    text: &[u8],
-    at: usize,
-    plane: &mut [i64],
-    halves: &mut [i64],
-    bounds: &mut [i64],
-    work: &mut [i64],
-) -> usize
-    requires { (at < length text.now) × (4 ≤ length plane.old) × (520 ≤ length halves.old) }
-    ensures { (at < result) × (result ≤ length text.now) }
+// A case, read into the tables: where it ends, and how many half-spaces it has.
+fn read_case(text: &[u8], start: Cursor, tables: &mut Tables) -> Result<(Cursor, usize), Refusal>
+    requires { start.at ≤ length text.now }
+    ensures { Onward (length text.now) start.at result }
 {
-    let Got::At(c) = frames::plane_at(text, Cursor { at }, plane, 0) else {
-        return text.len();
-    };
-    let h = read_halves(text, c.at, halves);
-    let Got::At(e) = frames::end_at(text, Cursor { at: h.at }) else {
-        return text.len();
-    };
-    let s = Plane {
-        a: plane[0],
-        b: plane[1],
-        c: plane[2],
-        d: plane[3],
-    };
-    let r = sections::section(s, &halves[..4 * h.count], bounds, work);
-    answer(r, bounds);
-    e.at
+    let c = frames::plane_at(text, start, &mut tables.plane, 0)?;
+    let (c, count) = read_halves(text, c, &mut tables.halves);
+    let end = frames::end_at(text, c)?;
+    Ok((end, count))
 }
 
-// The cases of a text, one after the other.
-fn cases(text: &[u8], plane: &mut [i64], halves: &mut [i64], bounds: &mut [i64], work: &mut [i64])
-    requires { (4 ≤ length plane.old) × (520 ≤ length halves.old) }
-{
-    let mut at: usize = 0;
-    while at < text.len() {
-        at = case(text, at, plane, halves, bounds, work);
+// The cases of a text, one after the other. A text that is no case ends them.
+fn cases(out: &mut Out, text: &[u8], tables: &mut Tables) -> fmt::Result {
+    let mut c = Cursor { at: 0 };
+    while let Ok((next, count)) = read_case(text, c, tables) {
+        let s = Plane::load(&tables.plane, 0);
+        let r = sections::section(
+            s,
+            &tables.halves[..4 * count],
+            &mut tables.bounds,
+            &mut tables.work,
+        );
+        answer(out, r, &tables.bounds)?;
+        c = next;
     }
+    Ok(())
 }
 
 // A table of three rows for four bounds is refused and left as zeros, one of four rows is filled, and Nothing needs no rows.
-fn rooms(work: &mut [i64]) {
-    let halves = [0i64; 4];
+fn rooms(out: &mut Out, work: &mut [i64]) -> fmt::Result {
     let middle = Plane {
         a: 1,
         b: 0,
@@ -129,29 +100,30 @@ fn rooms(work: &mut [i64]) {
     };
     let mut three = [7i64; 12];
     let mut four = [7i64; 16];
-    let mut none = [7i64; 4];
     answer(
-        sections::section(middle, &halves[..0], &mut three, work),
+        out,
+        sections::section(middle, &[], &mut three, work),
         &three,
-    );
-    rows(&three, 3);
-    answer(
-        sections::section(middle, &halves[..0], &mut four, work),
-        &four,
-    );
-    answer(
-        sections::section(face, &halves[..0], &mut none[..0], work),
-        &four,
-    );
+    )?;
+    rows(out, &three, 3)?;
+    answer(out, sections::section(middle, &[], &mut four, work), &four)?;
+    answer(out, sections::section(face, &[], &mut [], work), &four)
 }
 
-fn main() {
+fn show(out: &mut Out) -> fmt::Result {
     let mut text = io::large_buffer();
-    io::read_full(0, &mut text);
-    let mut plane = [0i64; 4];
-    let mut halves = [0i64; 520];
-    let mut bounds = [0i64; 540];
-    let mut work = [0i64; 4096];
-    cases(&text, &mut plane, &mut halves, &mut bounds, &mut work);
-    rooms(&mut work);
+    let n = io::read_full(0, &mut text);
+    let mut tables = Tables {
+        plane: [0; 4],
+        halves: [0; 520],
+        bounds: [0; 540],
+        work: [0; 4096],
+    };
+    cases(out, &text[..n], &mut tables)?;
+    rooms(out, &mut tables.work)
+}
+
+// A line that is not taken ends the rest.
+fn main() {
+    let _ = show(&mut Out);
 }

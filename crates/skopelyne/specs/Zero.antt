@@ -4,10 +4,13 @@
 --     read_zero, read_refused         reading
 --     write_zero, write_refused, text_zero, text_refused   writing, and the calls on texts
 --     point_zero, point_refused, section_zero, section_refused   point, section
-use Rattle.std.specs.Prelude.{◌≡◌, refl, Bool, true, false, cond, List, [], ◌∷◌, ◌≢◌, ℕ, ◌-◌, ◌/◌, ◌≤◌, leb, ℤ, pos, length, replicate}
+use Rattle.std.specs.Prelude.{◌≡◌, refl, Bool, true, false, cond, List, [], ◌∷◌, ◌≢◌, ℕ, ◌-◌, ◌/◌, ◌≤◌, leb, ℤ, pos, length, replicate, Option as Maybe, Some, None, Result, Ok, Err}
 use Rattle.std.proofs.Common.{sym, ap, subst, ◌∙◌, arith}
 use Rattle.std.proofs.Math.Option.{Option, none, some}
 use Rattle.whole.specs.Tests.{differ}
+use Rattle.refusals.specs.declared.Refusal.{Refusal}
+use Rattle.refusals.specs.declared.LineRefusal.{LineRefusal}
+use Rattle.refusals.specs.Numbers.{number, numbered, lined}
 use Rattle.scope.specs.Limits.{stated, most_halves}
 use Rattle.scope.specs.Planes as scope-planes
 use Rattle.scope.specs.Planes.{Point}
@@ -22,19 +25,16 @@ use Rattle.scope.specs.Answers as scope
 use Rattle.theory.specs.Numbers.{judge_number, lent_number, order_number, merge_number, form_number, work_number}
 use Rattle.tables.specs.declared.Solid.{Solid}
 use Rattle.theory.specs.Text.Lent.{lent}
-use Rattle.tables.specs.declared.Judgement as Judgement
-use Rattle.points.specs.declared.Told as told
+use Rattle.points.specs.declared.Place.TheVariants.{In, Out, On}
+use Rattle.points.specs.declared.Place.{Place}
 use Rattle.points.specs.Promises.{Tells}
-use Rattle.sections.specs.declared.Sectioned as Sectioned
 use Rattle.sections.specs.Values.{section_of}
 use Rattle.sections.specs.Promises.{answer_to, SectionTold}
 use Rattle.lines.specs.Reading.{rooms}
 use Rattle.solids.specs.Reading.{judgement, ReadTold}
-use Rattle.solids.specs.declared.Written as Written
 use Rattle.solids.specs.Writing.{wrote, itself, WriteTold}
 use Rattle.solids.specs.Follows.{read_refusal, write_refusal}
 use Rattle.outputs.specs.Outputs.{in_room}
-use Rattle.results.specs.declared.Given as Given
 use Rattle.results.specs.Results.{Asked, merge_of, form_of, Right, rooms as results-rooms, Told}
 use Rattle.results.specs.Follows.{told_refusal}
 use Rattle.texts.specs.Answers.{Job, merging, forming, unread, merged_text, formed_text, AnswerTo}
@@ -52,48 +52,48 @@ right_number (merge_of o A B) work s k m = work_number (λ b p e. merge_number (
 right_number (form_of A) work s k m = work_number (λ b p e. form_number (λ n l d. lent_number A d) p e) m refl
 
 module _ {q : Asked} {xs xs' : List ℤ} {ns ns' : List ℕ} {w w' : List ℤ} {k p n r : ℕ} (h : GivenOut q xs xs' ns ns' w w' k p n r) where
-  pub given_zero : k ≡ 0 → (s : Solid) × (h.answer ≡ Given.TheVariants.Solid s)
+  pub given_zero : k ≡ 0 → (s : Solid) × (h.answer ≡ Ok s)
   given_zero e = by h.answer refl
     where
-      by : (g : Given.Given) → h.answer ≡ g → (s : Solid) × (h.answer ≡ Given.TheVariants.Solid s)
-      by (Given.TheVariants.Solid s) f = (s, f)
-      by (Given.TheVariants.Refused j) f = absurd (none_below (right_number q (length w) (results-rooms xs ns) j (told_refusal (subst (Told q xs xs' ns ns' w w') f h.promise)).when) (sym (ap (λ g. (given_as g).number) f) ∙ sym h.counted.number ∙ e))
+      by : (g : Result Solid Refusal) → h.answer ≡ g → (s : Solid) × (h.answer ≡ Ok s)
+      by (Ok s) f = (s, f)
+      by (Err j) f = absurd (none_below (right_number q (length w) (results-rooms xs ns) (number j) (told_refusal (subst (λ g. Told q xs xs' ns ns' w w' (numbered g)) f h.promise)).when) (sym (ap (λ g. (given_as (numbered g)).number) f) ∙ sym h.counted.number ∙ e))
 
   pub given_refused : k ≢ 0 → (p ≡ 0) × (n ≡ 0) × (r ≡ 0) × (xs' ≡ replicate (length xs) (pos 0)) × (ns' ≡ replicate (length ns) 0) × (w' ≡ replicate (length w) (pos 0))
   given_refused d = by h.answer refl
     where
-      by : (g : Given.Given) → h.answer ≡ g → (p ≡ 0) × (n ≡ 0) × (r ≡ 0) × (xs' ≡ replicate (length xs) (pos 0)) × (ns' ≡ replicate (length ns) 0) × (w' ≡ replicate (length w) (pos 0))
-      by (Given.TheVariants.Solid s) f = absurd (d (h.counted.number ∙ ap (λ g. (given_as g).number) f))
-      by (Given.TheVariants.Refused j) f =
-          let z = told_refusal (subst (Told q xs xs' ns ns' w w') f h.promise) in
-          (h.counted.planes ∙ ap (λ g. (given_as g).planes) f, h.counted.nodes ∙ ap (λ g. (given_as g).nodes) f, h.counted.root ∙ ap (λ g. (given_as g).root) f, z.planes, z.nodes, z.work)
+      by : (g : Result Solid Refusal) → h.answer ≡ g → (p ≡ 0) × (n ≡ 0) × (r ≡ 0) × (xs' ≡ replicate (length xs) (pos 0)) × (ns' ≡ replicate (length ns) 0) × (w' ≡ replicate (length w) (pos 0))
+      by (Ok s) f = absurd (d (h.counted.number ∙ ap (λ g. (given_as (numbered g)).number) f))
+      by (Err j) f =
+          let z = told_refusal (subst (λ g. Told q xs xs' ns ns' w w' (numbered g)) f h.promise) in
+          (h.counted.planes ∙ ap (λ g. (given_as (numbered g)).planes) f, h.counted.nodes ∙ ap (λ g. (given_as (numbered g)).nodes) f, h.counted.root ∙ ap (λ g. (given_as (numbered g)).root) f, z.planes, z.nodes, z.work)
 
 -- ---- reading
 
-read_number : {t : List ℕ} {xs xs' : List ℤ} {ns ns' : List ℕ} {w w' : List ℤ} {k l : ℕ} → ReadTold t xs xs' ns ns' w w' (Judgement.TheVariants.Refused k l) → 1 ≤ k
+read_number : {t : List ℕ} {xs xs' : List ℤ} {ns ns' : List ℕ} {w w' : List ℤ} {k l : ℕ} → ReadTold t xs xs' ns ns' w w' (Err (k, l)) → 1 ≤ k
 read_number {t} {xs} {ns = ns} {w = w} {k = k} {l = l} h = by (leb 4096 (length w)) (judge (rooms xs ns) t) refl h.answer
   where
-    by : (b : Bool) (v : Verdict) → judge (rooms xs ns) t ≡ v → Judgement.TheVariants.Refused k l ≡ judgement (cond b v (refusal 8 0)) → 1 ≤ k
-    by false v f e = let d : k ≡ 8 = cc in omega (arith, d)
+    by : (b : Bool) (v : Verdict) → judge (rooms xs ns) t ≡ v → Err (k, l) ≡ judgement (cond b v (refusal 8 0)) → 1 ≤ k
+    by false v f e = let p : ◌≡◌ {A = ℕ × ℕ} (k, l) (8, 0) = cc in let d : k ≡ 8 = ap (λ p. p.0) p in omega (arith, d)
     by true (accepted a) f e = differ (cc)
-    by true (refusal m j) f e = let d : k ≡ m = cc in omega (arith, d, judge_number (rooms xs ns) t f)
+    by true (refusal m j) f e = let p : ◌≡◌ {A = ℕ × ℕ} (k, l) (m, j) = cc in let d : k ≡ m = ap (λ p. p.0) p in omega (arith, d, judge_number (rooms xs ns) t f)
 
 module _ {t : List ℕ} {xs xs' : List ℤ} {ns ns' : List ℕ} {w w' : List ℤ} {k p n r : ℕ} (h : ReadOut t xs xs' ns ns' w w' k p n r) where
-  pub read_zero : k ≡ 0 → (s : Solid) × (h.answer ≡ Judgement.TheVariants.Sound s)
+  pub read_zero : k ≡ 0 → (s : Solid) × (h.answer ≡ Ok s)
   read_zero e = by h.answer refl
     where
-      by : (j : Judgement.Judgement) → h.answer ≡ j → (s : Solid) × (h.answer ≡ Judgement.TheVariants.Sound s)
-      by (Judgement.TheVariants.Sound s) f = (s, f)
-      by (Judgement.TheVariants.Refused m l) f = absurd (none_below (read_number (subst (ReadTold t xs xs' ns ns' w w') f h.promise)) (sym (ap (λ j. (read_as j).number) f) ∙ sym h.counted.number ∙ e))
+      by : (j : Result Solid LineRefusal) → h.answer ≡ j → (s : Solid) × (h.answer ≡ Ok s)
+      by (Ok s) f = (s, f)
+      by (Err m) f = absurd (none_below (read_number (subst (λ j. ReadTold t xs xs' ns ns' w w' (lined j)) f h.promise)) (sym (ap (λ j. (read_as (lined j)).number) f) ∙ sym h.counted.number ∙ e))
 
   pub read_refused : k ≢ 0 → (p ≡ 0) × (n ≡ 0) × (r ≡ 0) × (xs' ≡ replicate (length xs) (pos 0)) × (ns' ≡ replicate (length ns) 0) × (w' ≡ replicate (length w) (pos 0))
   read_refused d = by h.answer refl
     where
-      by : (j : Judgement.Judgement) → h.answer ≡ j → (p ≡ 0) × (n ≡ 0) × (r ≡ 0) × (xs' ≡ replicate (length xs) (pos 0)) × (ns' ≡ replicate (length ns) 0) × (w' ≡ replicate (length w) (pos 0))
-      by (Judgement.TheVariants.Sound s) f = absurd (d (h.counted.number ∙ ap (λ j. (read_as j).number) f))
-      by (Judgement.TheVariants.Refused m l) f =
-          let z = read_refusal (subst (ReadTold t xs xs' ns ns' w w') f h.promise) in
-          (h.counted.planes ∙ ap (λ j. (read_as j).planes) f, h.counted.nodes ∙ ap (λ j. (read_as j).nodes) f, h.counted.root ∙ ap (λ j. (read_as j).root) f, z.0, z.1, z.2)
+      by : (j : Result Solid LineRefusal) → h.answer ≡ j → (p ≡ 0) × (n ≡ 0) × (r ≡ 0) × (xs' ≡ replicate (length xs) (pos 0)) × (ns' ≡ replicate (length ns) 0) × (w' ≡ replicate (length w) (pos 0))
+      by (Ok s) f = absurd (d (h.counted.number ∙ ap (λ j. (read_as (lined j)).number) f))
+      by (Err m) f =
+          let z = read_refusal (subst (λ j. ReadTold t xs xs' ns ns' w w' (lined j)) f h.promise) in
+          (h.counted.planes ∙ ap (λ j. (read_as (lined j)).planes) f, h.counted.nodes ∙ ap (λ j. (read_as (lined j)).nodes) f, h.counted.root ∙ ap (λ j. (read_as (lined j)).root) f, z.0, z.1, z.2)
 
 -- ---- writing, and the calls on texts
 
@@ -101,11 +101,11 @@ no_entries : {A : Type 0} (o : A) (n : ℕ) → replicate (n - 0) o ≡ replicat
 no_entries o n = ap (λ k. replicate k o) {x = n - 0} {y = n} (omega arith)
 
 -- an answer that was written as a number is its refusal
-refused_of : {k : ℕ} (a : Answer (List ℕ)) → Written.TheVariants.Refused k ≡ wrote a → a ≡ refused k
+refused_of : {k : ℕ} (a : Answer (List ℕ)) → Err k ≡ wrote a → a ≡ refused k
 refused_of {k} (given x) e = differ (cc)
 refused_of {k} (refused m) e = let d : k ≡ m = cc in ap refused (sym d)
 
-write_number : {xs : List ℤ} {ns : List ℕ} {r : ℕ} {u u' : List ℕ} {w w' : List ℤ} {k : ℕ} → WriteTold xs ns r u u' w w' (Written.TheVariants.Refused k) → 1 ≤ k
+write_number : {xs : List ℤ} {ns : List ℕ} {r : ℕ} {u u' : List ℕ} {w w' : List ℤ} {k : ℕ} → WriteTold xs ns r u u' w w' (Err k) → 1 ≤ k
 unfolding write_answer
 write_number {xs} {ns} {r} {u} {w = w} {k = k} h = by (leb 4096 (length w)) (judge_lent (lent xs ns r)) refl (refused_of (write_answer (length w) (length u) (lent xs ns r)) h.answer)
   where
@@ -135,30 +135,30 @@ answer_number merging t room _ {k} (unread {n = n} d) e = let f : n ≡ k = cc i
 answer_number merging t room _ (merged_text {a = a} {b = b} {r = r} d m) e = room_number room r (λ j f. merge_number (taken a) (taken b) m f) e
 answer_number forming t room _ (formed_text {r = r} m) e = room_number room r (λ j f. form_number (λ n l d. judge_number operand_rooms t d) m f) e
 
-text_number : {job : Job} {t out out' : List ℕ} {w w' : List ℤ} {k : ℕ} → TextTold job t out out' w w' (Written.TheVariants.Refused k) → 1 ≤ k
+text_number : {job : Job} {t out out' : List ℕ} {w w' : List ℤ} {k : ℕ} → TextTold job t out out' w w' (Err k) → 1 ≤ k
 text_number {job} {t} {out} h = work_number (λ b p e. answer_number job t (length out) b p e) h.exact (refused_of h.answer h.told)
 
-text_zeros : {job : Job} {t out out' : List ℕ} {w w' : List ℤ} {k : ℕ} → TextTold job t out out' w w' (Written.TheVariants.Refused k) → (out' ≡ replicate (length out) 0) × (w' ≡ replicate (length w) (pos 0))
+text_zeros : {job : Job} {t out out' : List ℕ} {w w' : List ℤ} {k : ℕ} → TextTold job t out out' w w' (Err k) → (out' ≡ replicate (length out) 0) × (w' ≡ replicate (length w) (pos 0))
 text_zeros {out = out} h = (h.text ∙ ap (left 0 (length out) itself) (refused_of h.answer h.told) ∙ no_entries 0 (length out), h.work)
 
 -- an answer that has a number is refused; 0 is no such number
-wrote_zero : (P : Written.Written → Type 0) (k : ℕ) → ((j : ℕ) → P (Written.TheVariants.Refused j) → 1 ≤ j) → (a : Written.Written) → P a → k ≡ (written_as a).0 → k ≡ 0 → (m : ℕ) × (a ≡ Written.TheVariants.Text m)
-wrote_zero P k number (Written.TheVariants.Text m) p f e = (m, refl)
-wrote_zero P k number (Written.TheVariants.Refused j) p f e = absurd (none_below (number j p) (sym f ∙ e))
+wrote_zero : (P : Result ℕ ℕ → Type 0) (k : ℕ) → ((j : ℕ) → P (Err j) → 1 ≤ j) → (a : Result ℕ Refusal) → P (numbered a) → k ≡ (written_as (numbered a)).0 → k ≡ 0 → (m : ℕ) × (a ≡ Ok m)
+wrote_zero P k above (Ok m) p f e = (m, refl)
+wrote_zero P k above (Err j) p f e = absurd (none_below (above (number j) p) (sym f ∙ e))
 
-wrote_refused : (P : Written.Written → Type 0) (Z : Type 0) (k n : ℕ) → ((j : ℕ) → P (Written.TheVariants.Refused j) → Z) → (a : Written.Written) → P a → k ≡ (written_as a).0 → n ≡ (written_as a).1 → k ≢ 0 → (n ≡ 0) × Z
-wrote_refused P Z k n zeros (Written.TheVariants.Text m) p f g d = absurd (d f)
-wrote_refused P Z k n zeros (Written.TheVariants.Refused j) p f g d = (g, zeros j p)
+wrote_refused : (P : Result ℕ ℕ → Type 0) (Z : Type 0) (k n : ℕ) → ((j : ℕ) → P (Err j) → Z) → (a : Result ℕ Refusal) → P (numbered a) → k ≡ (written_as (numbered a)).0 → n ≡ (written_as (numbered a)).1 → k ≢ 0 → (n ≡ 0) × Z
+wrote_refused P Z k n zeros (Ok m) p f g d = absurd (d f)
+wrote_refused P Z k n zeros (Err j) p f g d = (g, zeros (number j) p)
 
 module _ {xs : List ℤ} {ns : List ℕ} {r : ℕ} {u u' : List ℕ} {w w' : List ℤ} {k n : ℕ} (h : WriteOut xs ns r u u' w w' k n) where
-  pub write_zero : k ≡ 0 → (m : ℕ) × (h.answer ≡ Written.TheVariants.Text m)
+  pub write_zero : k ≡ 0 → (m : ℕ) × (h.answer ≡ Ok m)
   write_zero = wrote_zero (WriteTold xs ns r u u' w w') k (λ j p. write_number p) h.answer h.promise h.number
 
   pub write_refused : k ≢ 0 → (n ≡ 0) × (u' ≡ replicate (length u) 0) × (w' ≡ replicate (length w) (pos 0))
   write_refused d = let z = wrote_refused (WriteTold xs ns r u u' w w') ((u' ≡ replicate (length u) 0) × (w' ≡ replicate (length w) (pos 0))) k n (λ j p. write_refusal p) h.answer h.promise h.number h.length d in (z.0, z.1.0, z.1.1)
 
 module _ {job : Job} {t u u' : List ℕ} {w w' : List ℤ} {k n : ℕ} (h : TextOut job t u u' w w' k n) where
-  pub text_zero : k ≡ 0 → (m : ℕ) × (h.answer ≡ Written.TheVariants.Text m)
+  pub text_zero : k ≡ 0 → (m : ℕ) × (h.answer ≡ Ok m)
   text_zero = wrote_zero (TextTold job t u u' w w') k (λ j p. text_number p) h.answer h.promise h.number
 
   pub text_refused : k ≢ 0 → (n ≡ 0) × (u' ≡ replicate (length u) 0) × (w' ≡ replicate (length w) (pos 0))
@@ -166,7 +166,7 @@ module _ {job : Job} {t u u' : List ℕ} {w w' : List ℤ} {k n : ℕ} (h : Text
 
 -- ---- points
 
-point_number : {xs : List ℤ} {ns : List ℕ} {r : ℕ} {X : Point} {w w' : List ℤ} {k : ℕ} → Tells xs ns r X w w' (told.TheVariants.Refused k) → 1 ≤ k
+point_number : {xs : List ℤ} {ns : List ℕ} {r : ℕ} {X : Point} {w w' : List ℤ} {k : ℕ} → Tells xs ns r X w w' (Err k) → 1 ≤ k
 point_number {xs} {ns} {r} {X} h = work_number (λ b p e. by p e) h.answer refl
   where
     by : {b : Answer Reply} {k : ℕ} → PointBy (lent xs ns r) X b → b ≡ refused k → 1 ≤ k
@@ -178,20 +178,20 @@ module _ {xs : List ℤ} {ns : List ℕ} {r : ℕ} {X : Point} {w w' : List ℤ}
   pub point_zero : k ≡ 0 → n ≢ 0
   point_zero e d = by h.answer h.promise h.number h.place
     where
-      by : (a : told.Told) → Tells xs ns r X w w' a → k ≡ (point_as a).0 → n ≡ (point_as a).1 → ⊥
-      by told.TheVariants.In p f g = absurd (omega (arith, g, d))
-      by told.TheVariants.Out p f g = absurd (omega (arith, g, d))
-      by told.TheVariants.On p f g = absurd (omega (arith, g, d))
-      by (told.TheVariants.Refused j) p f g = none_below (point_number p) (sym f ∙ e)
+      by : (a : Result Place Refusal) → Tells xs ns r X w w' (numbered a) → k ≡ (point_as (numbered a)).0 → n ≡ (point_as (numbered a)).1 → ⊥
+      by (Ok In) p f g = absurd (omega (arith, g, d))
+      by (Ok Out) p f g = absurd (omega (arith, g, d))
+      by (Ok On) p f g = absurd (omega (arith, g, d))
+      by (Err j) p f g = none_below (point_number p) (sym f ∙ e)
 
   pub point_refused : k ≢ 0 → (n ≡ 0) × (w' ≡ replicate (length w) (pos 0))
   point_refused d = by h.answer h.number h.place
     where
-      by : (a : told.Told) → k ≡ (point_as a).0 → n ≡ (point_as a).1 → (n ≡ 0) × (w' ≡ replicate (length w) (pos 0))
-      by told.TheVariants.In f g = absurd (d f)
-      by told.TheVariants.Out f g = absurd (d f)
-      by told.TheVariants.On f g = absurd (d f)
-      by (told.TheVariants.Refused j) f g = (g, h.promise.zeros)
+      by : (a : Result Place Refusal) → k ≡ (point_as (numbered a)).0 → n ≡ (point_as (numbered a)).1 → (n ≡ 0) × (w' ≡ replicate (length w) (pos 0))
+      by (Ok In) f g = absurd (d f)
+      by (Ok Out) f g = absurd (d f)
+      by (Ok On) f g = absurd (d f)
+      by (Err j) f g = (g, h.promise.zeros)
 
 -- ---- sections
 
@@ -224,10 +224,10 @@ section_number work room s hs {k} e = by (leb stated work) (quads hs) e
     by true none e = let d : ◌≡◌ {A = ℕ} 2 k = cc in omega (arith, d)
     by false q e = let d : ◌≡◌ {A = ℕ} 8 k = cc in omega (arith, d)
 
-section_zeros : {s : Plane} {hs bs bs' w w' : List ℤ} {k : ℕ} → SectionTold s hs bs bs' w w' (Sectioned.TheVariants.Refused k) → (bs' ≡ replicate (length bs) (pos 0)) × (w' ≡ replicate (length w) (pos 0))
+section_zeros : {s : Plane} {hs bs bs' w w' : List ℤ} {k : ℕ} → SectionTold s hs bs bs' w w' (Err k) → (bs' ≡ replicate (length bs) (pos 0)) × (w' ≡ replicate (length w) (pos 0))
 section_zeros {s} {hs} {bs} {w = w} {k = k} h = (h.bounds_left ∙ ap (left (pos 0) (length bs) flat_planes) (by (answer_to s hs bs w) h.answer) ∙ no_entries (pos 0) (length bs), h.work_left ∙ no_entries (pos 0) (length w))
   where
-    by : (a : Answer (List scope-planes.Plane)) → Sectioned.TheVariants.Refused k ≡ section_of a → a ≡ refused k
+    by : (a : Answer (List scope-planes.Plane)) → Err k ≡ section_of a → a ≡ refused k
     by (given []) e = differ (cc)
     by (given (b ∷ l)) e = differ (cc)
     by (refused m) e = let d : k ≡ m = cc in ap refused (sym d)
@@ -244,7 +244,7 @@ module _ {s : Plane} {hs bs bs' w w' : List ℤ} {k n : ℕ} (h : SectionOut s h
   pub section_refused : k ≢ 0 → (n ≡ 0) × (bs' ≡ replicate (length bs) (pos 0)) × (w' ≡ replicate (length w) (pos 0))
   section_refused d = by h.answer h.promise h.number h.count
     where
-      by : (a : Sectioned.Sectioned) → SectionTold s hs bs bs' w w' a → k ≡ (section_as a).0 → n ≡ (section_as a).1 → (n ≡ 0) × (bs' ≡ replicate (length bs) (pos 0)) × (w' ≡ replicate (length w) (pos 0))
-      by (Sectioned.TheVariants.Polygon m) p f g = absurd (d f)
-      by Sectioned.TheVariants.Nothing p f g = absurd (d f)
-      by (Sectioned.TheVariants.Refused j) p f g = let z = section_zeros p in (g, z.0, z.1)
+      by : (a : Result (Maybe ℕ) Refusal) → SectionTold s hs bs bs' w w' (numbered a) → k ≡ (section_as (numbered a)).0 → n ≡ (section_as (numbered a)).1 → (n ≡ 0) × (bs' ≡ replicate (length bs) (pos 0)) × (w' ≡ replicate (length w) (pos 0))
+      by (Ok (Some m)) p f g = absurd (d f)
+      by (Ok None) p f g = absurd (d f)
+      by (Err j) p f g = let z = section_zeros p in (g, z.0, z.1)

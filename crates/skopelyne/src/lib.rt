@@ -5,109 +5,95 @@
 
 ghost use Rattle.std.specs.Prelude.{◌≡◌};
 ghost use Rattle.planes.specs.Values.{quad};
+ghost use Rattle.refusals.specs.Numbers.{numbered, lined};
 ghost use Rattle.theory.specs.Text.Lent.{lent};
 ghost use Rattle.results.specs.Results.{merge_of, form_of};
 ghost use Rattle.texts.specs.Answers.{merging, forming};
-ghost use Rattle.skopelyne.specs.Numbers.{given_as, read_as, written_as, section_as, point_as, Counted};
+ghost use Rattle.skopelyne.specs.Numbers.{told, given_as, read_as, section_as, place_as, point_as, Counted};
 ghost use Rattle.skopelyne.specs.Exports.{GivenOut, ReadOut, WriteOut, TextOut, SectionOut, PointOut};
 
-use planes::Plane;
-use points::Told;
-use results::Given;
-use sections::Sectioned;
-use solids::Written;
-use tables::Judgement;
+use planes::{Plane, Point};
+use points::Place;
+use refusals::{LineRefusal, Refusal};
+use tables::{LentSolid, Solid};
 
 // ---- answers as numbers
 
 // A solid that was given, or the number.
-fn give(g: Given, planes: &mut usize, nodes: &mut usize, root: &mut u16) -> u8
-    ensures { Counted (given_as g) result planes.new nodes.new root.new }
+fn give(g: Result<Solid, Refusal>, planes: &mut usize, nodes: &mut usize, root: &mut u16) -> u8
+    ensures { Counted (given_as (numbered g)) result planes.new nodes.new root.new }
 {
     match g {
-        Given::Solid(s) => {
+        Ok(s) => {
             *planes = s.planes;
             *nodes = s.nodes;
             *root = s.root;
             0
         }
-        Given::Refused(k) => {
+        Err(k) => {
             *planes = 0;
             *nodes = 0;
             *root = 0;
-            k
+            u8::from(k)
         }
     }
 }
 
 // A solid that was read, or the number.
-fn judged(j: Judgement, planes: &mut usize, nodes: &mut usize, root: &mut u16) -> u8
-    ensures { Counted (read_as j) result planes.new nodes.new root.new }
+fn judged(
+    j: Result<Solid, LineRefusal>,
+    planes: &mut usize,
+    nodes: &mut usize,
+    root: &mut u16,
+) -> u8
+    ensures { Counted (read_as (lined j)) result planes.new nodes.new root.new }
 {
     match j {
-        Judgement::Sound(s) => give(Given::Solid(s), planes, nodes, root),
-        Judgement::Refused(k, _) => give(Given::Refused(k), planes, nodes, root),
+        Ok(s) => give(Ok(s), planes, nodes, root),
+        Err(l) => give(Err(l.refusal), planes, nodes, root),
     }
 }
 
-// A text that was written, or the number.
-fn wrote(r: Written, length: &mut usize) -> u8
-    ensures { (result ≡ (written_as r).0) × (length.new ≡ (written_as r).1) }
+// The number of a refusal, or 0; and what is told of an answer, `none` where it is a refusal.
+fn tell<T: Copy>(r: Result<T, Refusal>, none: T, place: &mut T) -> u8
+    ensures number { result ≡ (told none (numbered r)).0 }
+    ensures value { place.new ≡ (told none (numbered r)).1 }
 {
     match r {
-        Written::Text(n) => {
-            *length = n;
+        Ok(v) => {
+            *place = v;
             0
         }
-        Written::Refused(k) => {
-            *length = 0;
-            k
+        Err(k) => {
+            *place = none;
+            u8::from(k)
         }
     }
 }
 
 // How many bounds a section has, none for Nothing, or the number.
-fn bounded(r: Sectioned, count: &mut usize) -> u8
-    ensures { (result ≡ (section_as r).0) × (count.new ≡ (section_as r).1) }
+fn bounded(r: Result<Option<usize>, Refusal>, count: &mut usize) -> u8
+    ensures { (result ≡ (section_as (numbered r)).0) × (count.new ≡ (section_as (numbered r)).1) }
 {
-    match r {
-        Sectioned::Polygon(n) => {
-            *count = n;
-            0
-        }
-        Sectioned::Nothing => {
-            *count = 0;
-            0
-        }
-        Sectioned::Refused(k) => {
-            *count = 0;
-            k
-        }
+    tell(r.map(|n| n.unwrap_or(0)), 0, count)
+}
+
+// A place as a number: 1 for IN, 2 for OUT and 3 for ON.
+fn place_number(p: Place) -> u8
+    ensures { result ≡ place_as p }
+{
+    match p {
+        Place::In => 1,
+        Place::Out => 2,
+        Place::On => 3,
     }
 }
 
-// Where a point lies, 1 for IN, 2 for OUT and 3 for ON, or the number.
-fn placed(r: Told, place: &mut u8) -> u8
-    ensures { (result ≡ (point_as r).0) × (place.new ≡ (point_as r).1) }
+// Where a point lies, or the number.
+fn placed(r: Result<Place, Refusal>, place: &mut u8) -> u8
+    ensures { (result ≡ (point_as (numbered r)).0) × (place.new ≡ (point_as (numbered r)).1) }
 {
-    match r {
-        Told::In => {
-            *place = 1;
-            0
-        }
-        Told::Out => {
-            *place = 2;
-            0
-        }
-        Told::On => {
-            *place = 3;
-            0
-        }
-        Told::Refused(k) => {
-            *place = 0;
-            k
-        }
-    }
+    tell(r.map(place_number), 0, place)
 }
 
 // ---- solids
@@ -141,8 +127,12 @@ pub extern "C" fn skopelyne_write(
 ) -> u8
     ensures { WriteOut planes.now nodes.now root text.old text.new work.old work.new result length.new }
 {
-    let r = zones::write(planes, nodes, root, text, work);
-    wrote(r, length)
+    let s = LentSolid {
+        planes,
+        nodes,
+        root,
+    };
+    tell(zones::write(&s, text, work), 0, length)
 }
 
 // Where the point (x, y, z, w) lies to a solid: 1 for IN, 2 for OUT, 3 for ON.
@@ -160,7 +150,12 @@ pub extern "C" fn skopelyne_point(
 ) -> u8
     ensures { PointOut planes.now nodes.now root (quad x y z w) work.old work.new result place.new }
 {
-    let r = zones::point(planes, nodes, root, x, y, z, w, work);
+    let s = LentSolid {
+        planes,
+        nodes,
+        root,
+    };
+    let r = zones::point(&s, Point { x, y, z, w }, work);
     placed(r, place)
 }
 
@@ -183,7 +178,17 @@ pub extern "C" fn skopelyne_merge(
 ) -> u8
     ensures { GivenOut (merge_of op (lent ap.now an.now ar) (lent bp.now bn.now br)) planes.old planes.new nodes.old nodes.new work.old work.new result plane_count.new node_count.new root.new }
 {
-    let r = zones::merge(op, ap, an, ar, bp, bn, br, planes, nodes, work);
+    let a = LentSolid {
+        planes: ap,
+        nodes: an,
+        root: ar,
+    };
+    let b = LentSolid {
+        planes: bp,
+        nodes: bn,
+        root: br,
+    };
+    let r = zones::merge(op, &a, &b, planes, nodes, work);
     give(r, plane_count, node_count, root)
 }
 
@@ -202,7 +207,12 @@ pub extern "C" fn skopelyne_normal(
 ) -> u8
     ensures { GivenOut (form_of (lent ap.now an.now ar)) planes.old planes.new nodes.old nodes.new work.old work.new result plane_count.new node_count.new root.new }
 {
-    let r = zones::normal(ap, an, ar, planes, nodes, work);
+    let a = LentSolid {
+        planes: ap,
+        nodes: an,
+        root: ar,
+    };
+    let r = zones::normal(&a, planes, nodes, work);
     give(r, plane_count, node_count, root)
 }
 
@@ -218,8 +228,7 @@ pub extern "C" fn skopelyne_merge_text(
 ) -> u8
     ensures { TextOut merging text.now out.old out.new work.old work.new result length.new }
 {
-    let r = zones::merge_text(text, out, work);
-    wrote(r, length)
+    tell(zones::merge_text(text, out, work), 0, length)
 }
 
 // The normal form of a text: a solid.
@@ -232,8 +241,7 @@ pub extern "C" fn skopelyne_normal_text(
 ) -> u8
     ensures { TextOut forming text.now out.old out.new work.old work.new result length.new }
 {
-    let r = zones::normal_text(text, out, work);
-    wrote(r, length)
+    tell(zones::normal_text(text, out, work), 0, length)
 }
 
 // ---- sections

@@ -1,3 +1,2 @@
 pub mod Told
 mod Fitted
-mod Glue

@@ -1,26 +1,29 @@
 -- From a solid that was read to the promise of the public call.
---     into_long, into_short, into_refused, into_sound, into_more, into_told   a text
---     solid_inside                 where the text goes on after a solid
+--     into_long, into_refused, into_sound, into_more, into_told   a text
 --     read_sound, read_refused, told_sound, told_refused   the answer, and what is left in the tables
 use mathlib.Core.Path.{◌≡◌, refl, sym, ap, subst, ◌∙◌}
 use mathlib.Core.Bool.{Bool, true, false, cond}
 use mathlib.Core.List.{List, []}
 use Prim.Native.Nat.{ℕ, ◌-◌, ◌/◌, ◌≤◌, ◌<◌}
 use native.Mathlib.Omega.{arith}
+use Rattle.std.specs.Prelude.{Result, Ok, Err}
 use lib.Dec.{leb}
 use lib.IntN.{ℤ, pos}
 use lib.ListN.{length, drop, replicate}
 use borrow.Author.Tests.{le-leb, lt-leb}
+use Rattle.std.specs.Result.{is_err}
+use Rattle.whole.specs.Tests.{differ}
+use Rattle.refusals.specs.declared.LineRefusal.{LineRefusal}
+use Rattle.refusals.specs.Numbers.{lined}
 use Rattle.scope.specs.Limits.{stated, most_text}
 use Rattle.scope.specs.Text.{frames}
 use Rattle.scope.specs.Judging.{Rooms, fresh, refused, read_solid, refusal, finish, judge}
 use Rattle.scope.specs.Answers.{given, solid_then, plane_numbers, node_numbers, filled, left, read_answer}
 use Rattle.scope.specs.Answers as answers
 use Rattle.frames.specs.Promises.{Follows}
-use Rattle.tables.specs.declared.Judgement as Judgement
 use Rattle.tables.specs.declared.Solid.{Solid}
-use Rattle.lines.specs.declared.SolidRead as SolidRead
-use Rattle.solids.specs.Finish.{FinishIn, Finished, not_read, at_end, more}
+use Rattle.lines.specs.declared.SolidRead.{SolidRead}
+use Rattle.solids.specs.Finish.{Finished, at_end, more}
 use Rattle.lines.specs.Reading.{rooms, WholeSolid, SolidTold}
 use Rattle.solids.specs.Reading.{verdict, judgement, Into, IntoTold, ReadTold}
 use Rattle.lines.proofs.Whole.{finish_read, finish_more, finish_refused}
@@ -28,9 +31,6 @@ use Rattle.lines.proofs.Whole.{finish_read, finish_more, finish_refused}
 -- ---- a text
 
 module _ (t : List ℕ) (a : Rooms) (work : ℕ) where
-  pub into_short : work < stated → verdict work a t ≡ refusal 8 0
-  into_short h = ap (λ b. cond b (judge a t) (refusal 8 0)) (lt-leb stated work h)
-
   module _ (enough : stated ≤ work) where
     with_enough : verdict work a t ≡ judge a t
     with_enough = ap (λ b. cond b (judge a t) (refusal 8 0)) (le-leb stated work enough)
@@ -54,15 +54,9 @@ module _ (t : List ℕ) (a : Rooms) (work : ℕ) where
       into_sound q h = record { is = q.is; counts = q.counts; plane_table = q.plane_table; node_table = q.node_table; sound = by_lines ∙ finish_read q.reading h }
 
       -- from what was read to what is told
-      pub into_told : (xs : List ℤ) (ns : List ℕ) {r : SolidRead.SolidRead} {j : Judgement.Judgement} → Finished t r j → SolidTold t 0 1 a xs ns r → IntoTold t a work xs ns j
-      into_told xs ns not_read h = into_refused h
+      pub into_told : (xs : List ℤ) (ns : List ℕ) {r : SolidRead} {j : Result Solid (ℕ × ℕ)} → Finished t r j → SolidTold t 0 1 a xs ns (Ok r) → IntoTold t a work xs ns j
       into_told xs ns (at_end e) h = into_sound h e
       into_told xs ns (more e) h = into_more h e
-
--- where the text goes on after a solid
-pub solid_inside : (t : List ℕ) (from l : ℕ) (a : Rooms) (xs : List ℤ) (ns : List ℕ) (r : SolidRead.SolidRead) → SolidTold t from l a xs ns r → FinishIn t r
-solid_inside t from l a xs ns (SolidRead.TheVariants.Read s c j) h = h.inside
-solid_inside t from l a xs ns (SolidRead.TheVariants.Refused k j) h = tt
 
 -- ---- the public call
 
@@ -75,9 +69,9 @@ module _ (t : List ℕ) (xs : List ℤ) (ns : List ℕ) (w : List ℤ) where
       by true = refl
       by false = refl
 
-  pub read_sound : {s : Solid} {xs' : List ℤ} {ns' : List ℕ} {w' : List ℤ} → length xs' ≡ length xs → length ns' ≡ length ns → w' ≡ replicate (length w) (pos 0) → Into t (rooms xs ns) (length w) s xs' ns' → ReadTold t xs xs' ns ns' w w' (Judgement.TheVariants.Sound s)
+  pub read_sound : {s : Solid} {xs' : List ℤ} {ns' : List ℕ} {w' : List ℤ} → length xs' ≡ length xs → length ns' ≡ length ns → w' ≡ replicate (length w) (pos 0) → Into t (rooms xs ns) (length w) s xs' ns' → ReadTold t xs xs' ns ns' w w' (Ok s)
   read_sound {s} {xs'} {ns'} ex en ew q = record {
-    answer = ap Judgement.TheVariants.Sound q.counts ∙ ap judgement (sym q.sound);
+    answer = ap Ok q.counts ∙ ap judgement (sym q.sound);
     planes = q.plane_table ∙ ap (λ i. filled (pos 0) i (plane_numbers q.is)) ex ∙ sym (ap (left (pos 0) (length xs) plane_numbers) given_is);
     nodes = q.node_table ∙ ap (λ i. filled 0 i (node_numbers q.is)) en ∙ sym (ap (left 0 (length ns) node_numbers) given_is);
     work = ew;
@@ -86,7 +80,7 @@ module _ (t : List ℕ) (xs : List ℤ) (ns : List ℕ) (w : List ℤ) where
       given_is : read_answer (length w) (rooms xs ns) t ≡ given q.is
       given_is = answer_verdict ∙ ap (λ v. solid_then v given) q.sound
 
-  pub read_refused : {k l : ℕ} {xs' : List ℤ} {ns' : List ℕ} {w' : List ℤ} → xs' ≡ replicate (length xs) (pos 0) → ns' ≡ replicate (length ns) 0 → w' ≡ replicate (length w) (pos 0) → verdict (length w) (rooms xs ns) t ≡ refusal k l → ReadTold t xs xs' ns ns' w w' (Judgement.TheVariants.Refused k l)
+  pub read_refused : {k l : ℕ} {xs' : List ℤ} {ns' : List ℕ} {w' : List ℤ} → xs' ≡ replicate (length xs) (pos 0) → ns' ≡ replicate (length ns) 0 → w' ≡ replicate (length w) (pos 0) → verdict (length w) (rooms xs ns) t ≡ refusal k l → ReadTold t xs xs' ns ns' w w' (Err (k, l))
   read_refused {k} {l} ex en ew e = record {
     answer = ap judgement (sym e);
     planes = ex ∙ ap (λ n. replicate n (pos 0)) {x = length xs} {y = length xs - 0} (omega arith) ∙ sym (ap (left (pos 0) (length xs) plane_numbers) is_refused);
@@ -99,11 +93,13 @@ module _ (t : List ℕ) (xs : List ℤ) (ns : List ℕ) (w : List ℤ) where
 
   -- the tables that were read into have the lengths of those lent
   module _ (xs₁ : List ℤ) (ns₁ : List ℕ) (w₁ : List ℤ) (ex : length xs₁ ≡ length xs) (en : length ns₁ ≡ length ns) (ew : length w₁ ≡ length w) (xs₂ : List ℤ) (ns₂ : List ℕ) where
-    lent : (r : Judgement.Judgement) → IntoTold t (rooms xs₁ ns₁) (length w₁) xs₂ ns₂ r → IntoTold t (rooms xs ns) (length w) xs₂ ns₂ r
+    lent : (r : Result Solid (ℕ × ℕ)) → IntoTold t (rooms xs₁ ns₁) (length w₁) xs₂ ns₂ r → IntoTold t (rooms xs ns) (length w) xs₂ ns₂ r
     lent r = subst (λ a. a) (λ i. IntoTold t (record { plane_rows = ex i / 4; node_rows = en i / 3 }) (ew i) xs₂ ns₂ r)
 
-    pub told_refused : {r : Judgement.Judgement} {k l : ℕ} {xs' : List ℤ} {ns' : List ℕ} {w' : List ℤ} → r ≡ Judgement.TheVariants.Refused k l → IntoTold t (rooms xs₁ ns₁) (length w₁) xs₂ ns₂ r → xs' ≡ replicate (length xs) (pos 0) → ns' ≡ replicate (length ns) 0 → w' ≡ replicate (length w) (pos 0) → ReadTold t xs xs' ns ns' w w' r
-    told_refused {k = k} {l = l} {xs' = xs'} {ns' = ns'} {w' = w'} e h zx zn zw = subst (ReadTold t xs xs' ns ns' w w') (sym e) (read_refused zx zn zw (lent (Judgement.TheVariants.Refused k l) (subst (IntoTold t (rooms xs₁ ns₁) (length w₁) xs₂ ns₂) e h)))
+    pub told_refused : (r : Result Solid LineRefusal) {xs' : List ℤ} {ns' : List ℕ} {w' : List ℤ} → is_err r ≡ true → IntoTold t (rooms xs₁ ns₁) (length w₁) xs₂ ns₂ (lined r) → xs' ≡ replicate (length xs) (pos 0) → ns' ≡ replicate (length ns) 0 → w' ≡ replicate (length w) (pos 0) → ReadTold t xs xs' ns ns' w w' (lined r)
+    told_refused (Ok s) e h zx zn zw = differ (cc e)
+    told_refused (Err r) e h zx zn zw = read_refused zx zn zw (lent (lined (Err r)) h)
 
-    pub told_sound : {r : Judgement.Judgement} {s : Solid} {w' : List ℤ} → r ≡ Judgement.TheVariants.Sound s → IntoTold t (rooms xs₁ ns₁) (length w₁) xs₂ ns₂ r → length xs₂ ≡ length xs → length ns₂ ≡ length ns → w' ≡ replicate (length w) (pos 0) → ReadTold t xs xs₂ ns ns₂ w w' (Judgement.TheVariants.Sound s)
-    told_sound {s = s} e h lx ln zw = read_sound lx ln zw (lent (Judgement.TheVariants.Sound s) (subst (IntoTold t (rooms xs₁ ns₁) (length w₁) xs₂ ns₂) e h))
+    pub told_sound : (r : Result Solid LineRefusal) {w' : List ℤ} → is_err r ≡ false → IntoTold t (rooms xs₁ ns₁) (length w₁) xs₂ ns₂ (lined r) → length xs₂ ≡ length xs → length ns₂ ≡ length ns → w' ≡ replicate (length w) (pos 0) → ReadTold t xs xs₂ ns ns₂ w w' (lined r)
+    told_sound (Ok s) e h lx ln zw = read_sound lx ln zw (lent (Ok s) h)
+    told_sound (Err r) e h lx ln zw = differ (cc e)

@@ -16,13 +16,11 @@
 
 ghost use Rattle.std.specs.Prelude.{◌≤◌, length};
 
-use points::Told;
-use solids::Written;
-use tables::{Judgement, Solid};
-
-fn say(s: &[u8]) {
-    io::write_all(1, s);
-}
+use planes::Point;
+use points::Place;
+use prints::say;
+use refusals::{LineRefusal, Refusal};
+use tables::{LentSolid, Solid};
 
 // A blank and a number.
 fn number(n: u64) {
@@ -30,109 +28,53 @@ fn number(n: u64) {
     io::print_decimal(1, n);
 }
 
-fn refused(k: u8) {
+fn refused(r: Refusal) {
     say(b"REFUSED");
-    number(k as u64);
+    number(u64::from(u8::from(r)));
 }
 
 // The end of a call's line.
 fn rest(zero: bool) {
-    if zero {
-        say(b" ZEROS\n");
-    } else {
-        say(b" LEFT\n");
-    }
-}
-
-// ---- zeros
-
-// Whether a table of planes, or a work table, is zeros.
-fn zeros(t: &[i64]) -> bool {
-    for i in 0..t.len() {
-        if t[i] != 0 {
-            return false;
-        }
-    }
-    true
-}
-
-// Whether a table of nodes is zeros.
-fn zero_nodes(t: &[u16]) -> bool {
-    for i in 0..t.len() {
-        if t[i] != 0 {
-            return false;
-        }
-    }
-    true
-}
-
-// Whether a text of at most 65,536 bytes is zeros.
-fn zero_text(t: &[u8]) -> bool {
-    let none = io::large_buffer();
-    let n = t.len();
-    if 65536 < n {
-        return false;
-    }
-    check::same(t, &none[0..n])
+    say(if zero { b" ZEROS\n" } else { b" LEFT\n" });
 }
 
 // ---- writing
 
 // The first n bytes of what was written: SAME if they are `text`.
 fn show(again: &[u8], n: usize, text: &[u8], idle: bool) {
-    if again.len() < n {
+    let Some((written, left)) = again.split_at_checked(n) else {
         say(b"OVER\n");
         return;
-    }
-    if check::same(&again[0..n], text) {
-        say(b"SAME");
-    } else {
-        say(&again[0..n]);
-    }
-    let clean = zero_text(&again[n..]);
-    rest(clean && idle);
+    };
+    say(if written == text { b"SAME" } else { written });
+    rest(idle && left.iter().all(|b| *b == 0));
 }
 
 // What a writing answers, and what it left.
-fn written(r: Written, again: &[u8], text: &[u8], idle: bool) {
+fn written(r: Result<usize, Refusal>, again: &[u8], text: &[u8], idle: bool) {
     match r {
-        Written::Text(n) => show(again, n, text, idle),
-        Written::Refused(k) => {
+        Ok(n) => show(again, n, text, idle),
+        Err(k) => {
             refused(k);
-            let clean = zero_text(again);
-            rest(clean && idle);
+            rest(idle && again.iter().all(|b| *b == 0));
         }
     }
 }
 
 // The text of these tables, which may be `text` again.
-fn write(
-    planes: &[i64],
-    nodes: &[u16],
-    root: u16,
-    text: &[u8],
-    again: &mut [u8],
-    work: &mut [i64],
-) {
-    let r = solids::write(planes, nodes, root, again, work);
-    let idle = zeros(work);
+fn write(s: &LentSolid, text: &[u8], again: &mut [u8], work: &mut [i64]) {
+    let r = solids::write(s, again, work);
+    let idle = work.iter().all(|x| *x == 0);
     written(r, again, text, idle);
 }
 
 // The same in bytes and numbers of 7: `room` of them for the text, `lent` for work.
-fn write_in(planes: &[i64], nodes: &[u16], root: u16, text: &[u8], room: usize, lent: usize)
+fn write_in(s: &LentSolid, text: &[u8], room: usize, lent: usize)
     requires { (room ≤ 65536) × (lent ≤ 5000) }
 {
     let mut again = [7u8; 65536];
     let mut work = [7i64; 5000];
-    write(
-        planes,
-        nodes,
-        root,
-        text,
-        &mut again[0..room],
-        &mut work[0..lent],
-    );
+    write(s, text, &mut again[0..room], &mut work[0..lent]);
 }
 
 // ---- asks
@@ -141,10 +83,10 @@ fn write_in(planes: &[i64], nodes: &[u16], root: u16, text: &[u8], room: usize, 
 fn digits(line: &[u8; 74], at: usize) -> u64
     requires { at ≤ 58 }
 {
-    let a = frames::word(line, at, 0) as u64;
-    let b = frames::word(line, at + 4, 0) as u64;
-    let c = frames::word(line, at + 8, 0) as u64;
-    let d = frames::word(line, at + 12, 0) as u64;
+    let a = u64::from(frames::word(line, at));
+    let b = u64::from(frames::word(line, at + 4));
+    let c = u64::from(frames::word(line, at + 8));
+    let d = u64::from(frames::word(line, at + 12));
     ((a * 65536 + b) * 65536 + c) * 65536 + d
 }
 
@@ -156,75 +98,72 @@ fn signed(line: &[u8; 74], at: usize) -> i64
     if 9223372036854775807 < v {
         return 0;
     }
-    if line[at] == 45 {
+    if line[at] == b'-' {
         return -(v as i64);
     }
     v as i64
 }
 
 // Where a point lies.
-fn answer(t: Told) {
-    match t {
-        Told::In => say(b"IN"),
-        Told::Out => say(b"OUT"),
-        Told::On => say(b"ON"),
-        Told::Refused(k) => refused(k),
+fn answer(r: Result<Place, Refusal>) {
+    match r {
+        Ok(Place::In) => say(b"IN"),
+        Ok(Place::Out) => say(b"OUT"),
+        Ok(Place::On) => say(b"ON"),
+        Err(k) => refused(k),
     }
 }
 
-fn ask_point(planes: &[i64], nodes: &[u16], root: u16, line: &[u8; 74], work: &mut [i64]) {
-    let x = signed(line, 2);
-    let y = signed(line, 20);
-    let z = signed(line, 38);
-    let w = signed(line, 56);
-    answer(points::point(planes, nodes, root, x, y, z, w, work));
-    rest(zeros(work));
+fn ask_point(s: &LentSolid, line: &[u8; 74], work: &mut [i64]) {
+    let x = Point {
+        x: signed(line, 2),
+        y: signed(line, 20),
+        z: signed(line, 38),
+        w: signed(line, 56),
+    };
+    answer(points::point(s, x, work));
+    rest(work.iter().all(|x| *x == 0));
 }
 
 fn ask_text(planes: &[i64], nodes: &[u16], line: &[u8; 74], text: &[u8], lent: usize)
     requires { lent ≤ 5000 }
 {
-    let p = frames::word(line, 15, 0) as usize;
-    let q = frames::word(line, 33, 0) as usize;
-    let root = frames::word(line, 51, 0);
-    let room = frames::word(line, 69, 0) as usize;
+    let p = frames::word(line, 15) as usize;
+    let q = frames::word(line, 33) as usize;
+    let root = frames::word(line, 51);
+    let room = frames::word(line, 69) as usize;
     if planes.len() < p || nodes.len() < q {
         return;
     }
-    write_in(&planes[0..p], &nodes[0..q], root, text, room, lent);
+    let s = LentSolid {
+        planes: &planes[0..p],
+        nodes: &nodes[0..q],
+        root,
+    };
+    write_in(&s, text, room, lent);
 }
 
-// The next ask; the solid that was read has the first p numbers of planes and q of nodes.
-fn ask(planes: &[i64], p: usize, nodes: &[u16], q: usize, root: u16, text: &[u8], lent: usize)
-    requires { (p ≤ length planes.now) × (q ≤ length nodes.now) × (lent ≤ 5000) }
+// The next ask, of the solid s that was read, or of these tables.
+fn ask(s: &LentSolid, planes: &[i64], nodes: &[u16], text: &[u8], lent: usize)
+    requires { lent ≤ 5000 }
 {
     let mut line = [0u8; 74];
     let mut work = [7i64; 5000];
-    let got = io::read_full(0, &mut line);
-    if got < 74 {
+    if io::read_full(0, &mut line) < 74 {
         return;
     }
-    if line[0] == 87 {
+    if line[0] == b'W' {
         ask_text(planes, nodes, &line, text, lent);
     } else {
-        ask_point(&planes[0..p], &nodes[0..q], root, &line, &mut work[0..lent]);
+        ask_point(s, &line, &mut work[0..lent]);
     }
 }
 
-fn ask_all(
-    asks: usize,
-    planes: &[i64],
-    p: usize,
-    nodes: &[u16],
-    q: usize,
-    root: u16,
-    text: &[u8],
-    lent: usize,
-)
-    requires { (p ≤ length planes.now) × (q ≤ length nodes.now) × (lent ≤ 5000) }
+fn ask_all(asks: usize, s: &LentSolid, planes: &[i64], nodes: &[u16], text: &[u8], lent: usize)
+    requires { lent ≤ 5000 }
 {
-    for i in 0..asks {
-        ask(planes, p, nodes, q, root, text, lent);
+    for _ in 0..asks {
+        ask(s, planes, nodes, text, lent);
     }
 }
 
@@ -243,34 +182,31 @@ fn sound(
 )
     requires { (room ≤ 65536) × (lent ≤ 5000) }
 {
-    let n = s.planes;
-    let m = s.nodes;
-    let root = s.root;
     say(b"READ");
-    number(n as u64);
-    number(m as u64);
-    number(root as u64);
-    if planes.len() / 4 < n {
+    number(s.planes as u64);
+    number(s.nodes as u64);
+    number(u64::from(s.root));
+    if planes.len() / 4 < s.planes || nodes.len() / 3 < s.nodes {
         say(b" OVER\n");
         return;
     }
-    if nodes.len() / 3 < m {
-        say(b" OVER\n");
-        return;
-    }
-    let p = 4 * n;
-    let q = 3 * m;
-    let clean = zeros(&planes[p..]);
-    let bare = zero_nodes(&nodes[q..]);
+    let p = 4 * s.planes;
+    let q = 3 * s.nodes;
+    let clean = planes[p..].iter().all(|x| *x == 0);
+    let bare = nodes[q..].iter().all(|x| *x == 0);
     rest(clean && bare && idle);
-    write_in(&planes[0..p], &nodes[0..q], root, text, room, lent);
-    ask_all(asks, planes, p, nodes, q, root, text, lent);
+    let lent_solid = LentSolid {
+        planes: &planes[0..p],
+        nodes: &nodes[0..q],
+        root: s.root,
+    };
+    write_in(&lent_solid, text, room, lent);
+    ask_all(asks, &lent_solid, planes, nodes, text, lent);
 }
 
 // A text that was refused, and the asks.
 fn unsound(
-    k: u8,
-    l: usize,
+    l: LineRefusal,
     idle: bool,
     planes: &[i64],
     nodes: &[u16],
@@ -280,15 +216,20 @@ fn unsound(
 )
     requires { lent ≤ 5000 }
 {
-    refused(k);
-    number(l as u64);
-    let clean = zeros(planes);
-    let bare = zero_nodes(nodes);
+    refused(l.refusal);
+    number(l.line as u64);
+    let clean = planes.iter().all(|x| *x == 0);
+    let bare = nodes.iter().all(|x| *x == 0);
     rest(clean && bare && idle);
-    ask_all(asks, planes, 0, nodes, 0, 0, text, lent);
+    let none = LentSolid {
+        planes: &planes[0..0],
+        nodes: &nodes[0..0],
+        root: 0,
+    };
+    ask_all(asks, &none, planes, nodes, text, lent);
 }
 
-// A text, read into these tables: whether it was there.
+// A text, read into these tables: None if it was not there.
 fn run(
     text: &mut [u8],
     planes: &mut [i64],
@@ -296,26 +237,25 @@ fn run(
     work: &mut [i64],
     room: usize,
     asks: usize,
-) -> bool
+) -> Option<()>
     requires { (length work.old ≤ 5000) × (room ≤ 65536) }
 {
-    let got = io::read_full(0, text);
-    if got < text.len() {
-        return false;
+    if io::read_full(0, text) < text.len() {
+        return None;
     }
     let lent = work.len();
     let j = solids::read(text, planes, nodes, work);
-    let idle = zeros(work);
+    let idle = work.iter().all(|x| *x == 0);
     match j {
-        Judgement::Sound(s) => sound(s, idle, planes, nodes, text, room, asks, lent),
-        Judgement::Refused(k, l) => unsound(k, l, idle, planes, nodes, text, asks, lent),
+        Ok(s) => sound(s, idle, planes, nodes, text, room, asks, lent),
+        Err(l) => unsound(l, idle, planes, nodes, text, asks, lent),
     }
     say(b"--\n");
-    true
+    Some(())
 }
 
 // The same with tables of 7: n bytes, p numbers of planes, q of nodes, `lent` for work.
-fn lend(n: usize, p: usize, q: usize, lent: usize, room: usize, asks: usize) -> bool
+fn lend(n: usize, p: usize, q: usize, lent: usize, room: usize, asks: usize) -> Option<()>
     requires { (n ≤ 65536) × (p ≤ 512) × (q ≤ 3072) × (lent ≤ 5000) × (room ≤ 65536) }
 {
     let mut text = io::large_buffer();
@@ -332,29 +272,27 @@ fn lend(n: usize, p: usize, q: usize, lent: usize, room: usize, asks: usize) -> 
     )
 }
 
-// The next case: whether there was one.
-fn case() -> bool {
+// The next case: None if there was none.
+fn case() -> Option<()> {
     let mut head = [0u8; 30];
-    let got = io::read_full(0, &mut head);
-    if got < 30 {
-        return false;
+    if io::read_full(0, &mut head) < 30 {
+        return None;
     }
-    let n = frames::word(&head, 0, 0) as usize;
-    let p = frames::word(&head, 5, 0) as usize;
-    let q = frames::word(&head, 10, 0) as usize;
-    let lent = frames::word(&head, 15, 0) as usize;
-    let room = frames::word(&head, 20, 0) as usize;
-    let asks = frames::word(&head, 25, 0) as usize;
+    let n = frames::word(&head, 0) as usize;
+    let p = frames::word(&head, 5) as usize;
+    let q = frames::word(&head, 10) as usize;
+    let lent = frames::word(&head, 15) as usize;
+    let room = frames::word(&head, 20) as usize;
+    let asks = frames::word(&head, 25) as usize;
     if 512 < p || 3072 < q || 5000 < lent {
-        return false;
+        return None;
     }
     lend(n, p, q, lent, room, asks)
 }
 
 fn main() {
-    for i in 0..65536usize {
-        let more = case();
-        if !more {
+    for _ in 0..65536usize {
+        if case().is_none() {
             return;
         }
     }

@@ -1,5 +1,4 @@
-pub mod Places
-pub mod CellKinds
+pub mod CellMarks
 pub mod Scans
 pub mod Rests
 pub mod Shapes

@@ -2,20 +2,18 @@
 --     Apart                      two trees that are not the same mark
 --     node_put                   the rows of the sides, and the node's own
 --     front_lost, back_lost      a side whose rows have no room
---     no_rows, put_placed        a refusal gives no rows, and a row that is put out has room
-use mathlib.Core.Path.{◌≡◌, refl, sym, subst, ◌∙◌}
+--     put_placed                 a row that is put out has room
+use mathlib.Core.Path.{◌≡◌, refl, sym, subst}
 use mathlib.Core.List.{List}
 use Prim.Native.Nat.{ℕ, suc, ◌<◌}
 use native.Mathlib.Omega.{arith}
-use Rattle.whole.specs.Tests.{differ}
 use Rattle.scope.specs.Planes.{Plane}
 use Rattle.scope.specs.Solids.{Mark, IN, OUT, Tree, leaf, node, rows, code, place}
 use Rattle.scope.specs.Cells.{join}
-use Rattle.walks.specs.declared.Walked.{Walked}
-use Rattle.walks.specs.declared.Walked.TheVariants.{Done, Refused}
-use Rattle.walks.specs.Putting.{Room, Put, Emitted}
+use Rattle.std.specs.Prelude.{Ok, Err}
+use Rattle.walks.specs.Putting.{Walked, Room, Put, Emitted}
 use Rattle.walks.proofs.Emits as emits
-use Rattle.walks.proofs.Emits.{room?, Got, closed}
+use Rattle.walks.proofs.Emits.{room?, no_rows, done_same, Got, closed}
 
 -- two trees that are not the same mark
 abbrev pub Apart : Tree → Tree → Type 0
@@ -46,20 +44,16 @@ module _ {J : List Plane} {o₀ o₁ o₂ : List ℕ} {n fc bc n₁ n₂ : ℕ} 
       subst (λ t. Emitted J o₀ o₃ n t r) (join_apart p x y a)
       (closed p g h (record { same = λ u v. absurd (omega (arith, v, codes_apart a g h u)); row = λ u. e }))
 
-module _ {J : List Plane} {o₀ o₁ : List ℕ} {n k : ℕ} {r : Walked} (p : Plane) (x y : Tree) (a : Apart x y) (e : r ≡ Refused k) where
-  pub front_lost : Emitted J o₀ o₁ n x r → Emitted J o₀ o₁ n (node p x y) r
-  front_lost h = subst (λ t. Emitted J o₀ o₁ n t r) (join_apart p x y a) (emits.front_lost p x y e h)
+module _ {J : List Plane} {o₀ o₁ : List ℕ} {n k : ℕ} {r : Walked} (p : Plane) (x y : Tree) (a : Apart x y) (e : r ≡ Err k) where
+  pub front_lost : Emitted J o₀ o₁ n x r → Emitted J o₀ o₁ n (node p x y) (Err k)
+  front_lost h = subst (λ t. Emitted J o₀ o₁ n t (Err k)) (join_apart p x y a) (emits.front_lost p x y e h)
 
-  pub back_lost : {o₂ : List ℕ} {c n₁ : ℕ} → Got J o₀ o₁ n x c n₁ → Emitted J o₁ o₂ n₁ y r → Emitted J o₀ o₂ n (node p x y) r
-  back_lost {o₂} g h = subst (λ t. Emitted J o₀ o₂ n t r) (join_apart p x y a) (emits.back_lost p x y e g h)
+  pub back_lost : {o₂ : List ℕ} {c n₁ : ℕ} → Got J o₀ o₁ n x c n₁ → Emitted J o₁ o₂ n₁ y r → Emitted J o₀ o₂ n (node p x y) (Err k)
+  back_lost {o₂} g h = subst (λ t. Emitted J o₀ o₂ n t (Err k)) (join_apart p x y a) (emits.back_lost p x y e g h)
 
--- an answer that is a refusal gives no rows
-pub no_rows : {z : Walked} {j e m : ℕ} → z ≡ Refused j → z ≡ Done e m → ⊥
-no_rows {j = j} {e = e} {m = m} f g = let d : Refused j ≡ Done e m = sym f ∙ g in differ (cc)
-
-pub put_placed : {o₂ o₃ : List ℕ} {n₂ n f g : ℕ} {z : Walked} {e m : ℕ} → Put o₂ o₃ n₂ n f g z → z ≡ Done e m → Room o₂ m
-put_placed {o₂} {n₂ = n₂} {z = z} {e = e} {m = m} c d = go (room? o₂ (suc n₂))
+pub put_placed : {o₂ o₃ : List ℕ} {n₂ n f g : ℕ} {z : Walked} {e m : ℕ} → Put o₂ o₃ n₂ n f g z → z ≡ Ok (e, m) → Room o₂ m
+put_placed {o₂} {n₂ = n₂} {m = m} c d = go (room? o₂ (suc n₂))
   where
     go : Dec (Room o₂ (suc n₂)) → Room o₂ m
-    go (yes r) = let i : Done e m ≡ Done n₂ (suc n₂) = sym d ∙ (c.fits r).0 in let j : m ≡ suc n₂ = cc in subst (Room o₂) (sym j) r
+    go (yes r) = subst (Room o₂) (sym (done_same d (c.fits r).0).1) r
     go (no r) = absurd (no_rows (c.over r) d)

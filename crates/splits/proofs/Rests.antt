@@ -1,34 +1,48 @@
 -- The listed planes that are left for a cell: those that cut it stand in place k or later.
---     rest_all             at first all are left
+--     places_before        in an ascending list the planes of rising places are in order
 --     rest_on, rest_half   where some that do not cut are passed over, and in a half of the cell
 --     listed_first         the plane in place k, if it cuts the cell, is the plane of B.3
 --     some_cuts            one of them cuts a mixed cell
 use mathlib.Core.Path.{◌≡◌, refl, sym, ap, subst, ◌∙◌}
 use mathlib.Core.Bool.{Bool, true, false}
 use mathlib.Core.List.{List, ◌∷◌}
+use mathlib.Core.Option.{some}
 use Prim.Native.Nat.{ℕ, zero, suc, ◌+◌, ◌-◌, ◌≤◌, ◌<◌}
 use native.Mathlib.Omega.{arith}
 use lib.IntN.{ℤ}
-use lib.ListN.{length}
-use Rattle.whole.specs.Members.{here}
+use lib.ListN.{length, get_elem?}
+use Rattle.whole.specs.Tests.{differ}
+use Rattle.whole.specs.Members.{here, elem_in}
 use Rattle.scope.specs.Planes.{Plane, flip}
 use Rattle.scope.specs.Cells.{box, Cuts}
 use Rattle.scope.specs.Normal as normal
 use Rattle.scope.specs.Normal.{Space}
 use Rattle.theory.specs.Planes.Order.{Before, before_irrefl, before_asym}
-use Rattle.theory.specs.Planes.Lists.{Ascending}
+use Rattle.theory.specs.Planes.Lists.{Ascending, empty, next}
 use Rattle.theory.specs.Planes.General.{General}
 use Rattle.theory.specs.Cells.Box.{tail}
 use Rattle.theory.specs.Cells.Sides.{half, cuts_new, cuts_new_back}
 use Rattle.theory.specs.Cells.Uniform as theory
 use Rattle.theory.specs.Forms.Normal.{Within, boundary_cuts}
+use Rattle.tables.specs.Rows.{plane_at}
 use Rattle.walks.specs.Standing.{list}
 use Rattle.borders.specs.Bounded.{listed, Bounded, Later}
 use Rattle.splits.specs.Splits.{Rest}
-use Rattle.splits.proofs.Places.{places_before}
+use Rattle.borders.proofs.Rows.{row_elem}
 
-pub rest_all : {S : Space} {xs : List ℤ} {bs : List ℕ} → Bounded S xs bs → (c : List Plane) → Rest S xs bs 0 c
-rest_all b c q e u = b.all q e
+-- ---- order
+
+elems_before : {ps : List Plane} → Ascending ps → (i j : ℕ) {p q : Plane} → get_elem? ps i ≡ some p → get_elem? ps j ≡ some q → i < j → Before p q
+elems_before empty i j e f l = differ (cc)
+elems_before (next {p = r} {ps = ps} h a) zero zero e f l = absurd (omega (arith, l))
+elems_before (next {p = r} {ps = ps} h a) zero (suc j) {p} {q} e f l = let d : r ≡ p = cc in subst (λ s. Before s q) d (h q (elem_in ps j f))
+elems_before (next {p = r} {ps = ps} h a) (suc i) zero e f l = absurd (omega (arith, l))
+elems_before (next {p = r} {ps = ps} h a) (suc i) (suc j) e f l = elems_before a i j e f (omega (arith, l))
+
+places_before : (xs : List ℤ) {i j : ℕ} → Ascending (list xs) → i < length (list xs) → j < length (list xs) → i < j → Before (plane_at xs i) (plane_at xs j)
+places_before xs {i} {j} a h k l = elems_before a i j (row_elem xs i h) (row_elem xs j k) l
+
+-- ---- what is left
 
 module _ {S : Space} {xs : List ℤ} {bs : List ℕ} {k : ℕ} {c : List Plane} (r : Rest S xs bs k c) where
   pub rest_on : {i : ℕ} → ((j : ℕ) → k ≤ j → j < i → ¬ Cuts (listed xs bs j) c) → Rest S xs bs i c

@@ -13,6 +13,7 @@ use lib.Dec.{T, leb, eqb, eqb→eq}
 use lib.IntN.{ℤ, pos}
 use lib.ListN.{length, get_or, drop, length-append, length-drop, drop_of_length-le}
 use lib.Seq.{drop-cons}
+use Rattle.std.specs.Prelude.{⊤, Result, Ok, Err}
 use Rattle.whole.specs.Tests.{◌and◌, differ, eq_test}
 use Rattle.scope.specs.Limits.{most_planes, most_nodes}
 use Rattle.scope.specs.Planes.{Fault, fault}
@@ -24,9 +25,8 @@ use Rattle.theory.specs.Text.Lent.{lent, lent_rooms}
 use Rattle.tables.specs.Rows.{plane_at, entry_at, planes_to, entries_to, last_before}
 use Rattle.tables.proofs.Stacks.{one_deep, used_marks}
 use Rattle.tables.specs.Work.{stack, all_marked, runs, run_on}
-use Rattle.tables.specs.Promises.{judged, plane_judged, end_judged, sound_or, counts, close_judged, judgement, PlaneRefused, Standing, NodeRefused}
-use Rattle.tables.specs.declared.Judged.TheVariants.{Fine, Refused}
-use Rattle.tables.specs.declared.Judgement.TheVariants as Judgement
+use Rattle.tables.specs.declared.Solid.{Solid}
+use Rattle.tables.specs.Promises.{judged, plane_judged, end_judged, on_line, counts, close_judged, judgement, PlaneRefused, Standing, NodeRefused}
 
 -- ---- rows of a table, one by one
 
@@ -85,27 +85,32 @@ entries_count ns (suc i) = simp length-append (omega (arith, entries_count ns i)
 
 -- ---- what a judged step says of the step
 
-head_goes : (a b c : Bool) (s : State) → judged (head_by a b c s) ≡ Fine → head_by a b c s ≡ go s
+head_goes : (a b c : Bool) (s : State) → judged (head_by a b c s) ≡ Ok tt → head_by a b c s ≡ go s
 head_goes false b c s e = differ (cc)
 head_goes true false c s e = differ (cc)
 head_goes true true false s e = differ (cc)
 head_goes true true true s e = refl
 
-head_stops : (a b c : Bool) (s : State) (k : ℕ) → judged (head_by a b c s) ≡ Refused k → head_by a b c s ≡ stop k
+head_stops : (a b c : Bool) (s : State) (k : ℕ) → judged (head_by a b c s) ≡ Err k → head_by a b c s ≡ stop k
 head_stops false b c s k e = let f : ◌≡◌ {A = ℕ} 3 k = cc in ap stop f
 head_stops true false c s k e = let f : ◌≡◌ {A = ℕ} 6 k = cc in ap stop f
 head_stops true true false s k e = let f : ◌≡◌ {A = ℕ} 8 k = cc in ap stop f
 head_stops true true true s k e = differ (cc)
 
-plane_goes : (o : Option Fault) (b : Bool) (s : State) → judged (plane_by o b fresh) ≡ Fine → plane_by o b s ≡ go s
+plane_goes : (o : Option Fault) (b : Bool) (s : State) → judged (plane_by o b fresh) ≡ Ok tt → plane_by o b s ≡ go s
 plane_goes (some f) b s e = differ (cc)
 plane_goes none false s e = differ (cc)
 plane_goes none true s e = refl
 
-plane_stops : (o : Option Fault) (b : Bool) (s : State) (k : ℕ) → judged (plane_by o b fresh) ≡ Refused k → plane_by o b s ≡ stop k
+plane_stops : (o : Option Fault) (b : Bool) (s : State) (k : ℕ) → judged (plane_by o b fresh) ≡ Err k → plane_by o b s ≡ stop k
 plane_stops (some f) b s k e = let f : ◌≡◌ {A = ℕ} 4 k = cc in ap stop f
 plane_stops none false s k e = let f : ◌≡◌ {A = ℕ} 5 k = cc in ap stop f
 plane_stops none true s k e = differ (cc)
+
+-- a solid, or the refusal of one of its lines
+abbrev pub sound_or : Solid → Result ⊤ (ℕ × ℕ) → Result Solid (ℕ × ℕ)
+sound_or s (Ok u) = Ok s
+sound_or s (Err r) = Err r
 
 -- ---- the tables
 
@@ -128,11 +133,11 @@ module _ (xs : List ℤ) (ns : List ℕ) (root : ℕ) where
 
   -- ---- the head
 
-  pub head_stop : (k : ℕ) → judged (judge_head R n m root) ≡ Refused k → judge_lent (lent xs ns root) ≡ refusal k 1
+  pub head_stop : (k : ℕ) → judged (judge_head R n m root) ≡ Err k → judge_lent (lent xs ns root) ≡ refusal k 1
   unfolding judge_lent read_solid step judge_head
   head_stop k e = ap (λ x. finish (next x (λ c. read_solid R c 2 (plane_table xs nodes_left)) 1 (plane_table xs nodes_left))) (head_stops (leb n most_planes and leb m most_nodes) (root_ok m root) (in_rooms R n m) (busy n m root none [] [] []) k e)
 
-  pub head_go : judged (judge_head R n m root) ≡ Fine → BeforePlane 0
+  pub head_go : judged (judge_head R n m root) ≡ Ok tt → BeforePlane 0
   unfolding judge_lent read_solid step judge_head planes_to
   head_go e =
       let f : n ≡ n - 0 = omega arith in
@@ -154,7 +159,7 @@ module _ (xs : List ℤ) (ns : List ℕ) (root : ℕ) where
       let e : n - i ≡ suc (n - suc i) = omega arith in
       b.left ∙ (λ t. finish (read_solid R (busy (e t) m root (last_before xs i) (planes_to xs i) [] []) (2 + i) (plane_row xs i nodes_left (inside i h) t)))
 
-  plane_go : (i : ℕ) → i < n → plane_judged xs i ≡ Fine → BeforePlane i → BeforePlane (suc i)
+  plane_go : (i : ℕ) → i < n → plane_judged xs i ≡ Ok tt → BeforePlane i → BeforePlane (suc i)
   plane_go i h e b =
       let f : suc (2 + i) ≡ 2 + suc i = omega arith in
       record {
@@ -162,10 +167,10 @@ module _ (xs : List ℤ) (ns : List ℕ) (root : ℕ) where
             ∙ ap (λ l. finish (read_solid R (busy (n - suc i) m root (some (plane_at xs i)) (planes_to xs (suc i)) [] []) l (plane_table (drop (4 * suc i) xs) nodes_left))) f;
       }
 
-  plane_stop : (i k : ℕ) → i < n → plane_judged xs i ≡ Refused k → BeforePlane i → judge_lent (lent xs ns root) ≡ refusal k (2 + i)
+  plane_stop : (i k : ℕ) → i < n → plane_judged xs i ≡ Err k → BeforePlane i → judge_lent (lent xs ns root) ≡ refusal k (2 + i)
   plane_stop i k h e b = plane_next i h b ∙ ap (λ x. finish (next x (λ c. read_solid R c (suc (2 + i)) (plane_table (drop (4 * suc i) xs) nodes_left)) (2 + i) (plane_table (drop (4 * suc i) xs) nodes_left))) (plane_stops (fault (plane_at xs i)) (follows (last_before xs i) (plane_at xs i)) (busy (n - suc i) m root (some (plane_at xs i)) (planes_to xs (suc i)) [] []) k e)
 
-  planes_taken : (i : ℕ) → i ≤ n → ((j : ℕ) → j < i → plane_judged xs j ≡ Fine) → BeforePlane 0 → BeforePlane i
+  planes_taken : (i : ℕ) → i ≤ n → ((j : ℕ) → j < i → plane_judged xs j ≡ Ok tt) → BeforePlane 0 → BeforePlane i
   planes_taken zero h f b = b
   planes_taken (suc i) h f b = plane_go i (omega arith) (f i (omega arith)) (planes_taken i (omega arith) (λ j l. f j (omega arith)) b)
 
@@ -173,7 +178,7 @@ module _ (xs : List ℤ) (ns : List ℕ) (root : ℕ) where
   pub planes_stop : {k l : ℕ} → BeforePlane 0 → PlaneRefused xs n k l → judge_lent (lent xs ns root) ≡ refusal k l
   planes_stop {k} {l} b r = let h = r.inside in plane_stop r.row k h r.here (planes_taken r.row (omega arith) r.earlier b) ∙ ap (refusal k) (sym r.line)
 
-  module _ (fine : (j : ℕ) → j < n → plane_judged xs j ≡ Fine) (b : BeforePlane 0) where
+  module _ (fine : (j : ℕ) → j < n → plane_judged xs j ≡ Ok tt) (b : BeforePlane 0) where
     all_planes : judge_lent (lent xs ns root) ≡ finish (read_solid R (busy 0 m root (last_before xs n) (planes_to xs n) [] []) (2 + n) (plane_table (drop (4 * n) xs) nodes_left))
     all_planes =
         let e : n - n ≡ 0 = omega arith in
@@ -286,15 +291,15 @@ module _ (xs : List ℤ) (ns : List ℕ) (root : ℕ) where
         all_nodes ∙ ap (λ l. finish (read_solid R (busy 0 0 root (last_before xs n) (planes_to xs n) (entries_to ns m) stand.trees) (2 + n + m) (node_table l (end ∷ [])))) (drop_of_length-le ns {i = 3 * m} (omega arith))
         ∙ (λ t. finish (next (end_by ((ap (λ j. all_used j (entries_to ns m)) (planes_count xs n) ∙ used_marks w (entries_to ns m) n few s.marks) t) (one_deep w d stand.trees stand.sized t) (tables (planes_to xs n) (entries_to ns m) root)) (λ c. read_solid R c (suc (2 + n + m)) []) (2 + n + m) []))
 
-    ended : (a c : Bool) → sound_or (counts xs ns root) (2 + n + m) (end_judged a c) ≡ judgement xs ns root (finish (next (end_by a c (tables (planes_to xs n) (entries_to ns m) root)) (λ c. read_solid R c (suc (2 + n + m)) []) (2 + n + m) []))
+    ended : (a c : Bool) → sound_or (counts xs ns root) (on_line (2 + n + m) (end_judged a c)) ≡ judgement xs ns root (finish (next (end_by a c (tables (planes_to xs n) (entries_to ns m) root)) (λ c. read_solid R c (suc (2 + n + m)) []) (2 + n + m) []))
     ended false c = refl
     ended true false = refl
     ended true true = refl
 
     -- numbers left over, a plane that no row uses, rows outside the root's tree; or the solid
-    pub close : close_judged ns (counts xs ns root) w d ≡ judgement xs ns root (judge_lent (lent xs ns root))
+    pub close : sound_or (counts xs ns root) (close_judged ns (counts xs ns root) w d) ≡ judgement xs ns root (judge_lent (lent xs ns root))
     close = by (eqb (length ns % 3) 0) (eq_test (length ns % 3) 0) (eqb→eq (length ns % 3) 0)
       where
-        by : (c : Bool) → (length ns % 3 ≡ 0 → T c) → (T c → length ns % 3 ≡ 0) → cond c (sound_or (counts xs ns root) (2 + n + m) (end_judged (all_marked w n) (leb d 1))) (Judgement.Refused 2 (2 + n + m)) ≡ judgement xs ns root (judge_lent (lent xs ns root))
+        by : (c : Bool) → (length ns % 3 ≡ 0 → T c) → (T c → length ns % 3 ≡ 0) → sound_or (counts xs ns root) (on_line (2 + n + m) (cond c (end_judged (all_marked w n) (leb d 1)) (Err 2))) ≡ judgement xs ns root (judge_lent (lent xs ns root))
         by true f g = ended (all_marked w n) (leb d 1) ∙ ap (judgement xs ns root) (sym (nodes_whole (g tt)))
         by false f g = ap (judgement xs ns root) (sym (nodes_over_2 f))

@@ -1,5 +1,4 @@
 pub mod Heads
-pub mod Sides
 pub mod Stacks
 pub mod Turn
 pub mod Lent

@@ -1,6 +1,6 @@
 -- The work table: sizes of trees at its first places, and marks of planes.
 use mathlib.Core.Path.{◌≡◌, refl, sym, ap, ◌∙◌}
-use mathlib.Core.Bool.{Bool, true, false, cond, not}
+use mathlib.Core.Bool.{Bool, true, false, cond, not, ◌&&◌}
 use mathlib.Core.List.{List, [], ◌∷◌}
 use mathlib.Core.Logic.{◌≢◌}
 use mathlib.Core.Option.{none, some}
@@ -8,16 +8,22 @@ use Prim.Native.Nat.{ℕ, zero, suc, ◌+◌, ◌-◌, ◌≤◌, ◌<◌}
 use native.Mathlib.Omega.{arith}
 use native.Mathlib.Numerals.{add-one}
 use lib.Dec.{T, leb, eqb, eqb→eq}
-use lib.IntN.{ℤ, pos, negsuc, nat_abs}
-use lib.ListN.{length, get_or, set, length-set}
-use lib.Seq.{get_or-set_same, get_or-set_other}
+use lib.IntN.{ℤ, pos, nat_abs}
+use lib.ListN.{length, get_or, take, drop, set, length-set, length-drop}
+use lib.Seq.{get_or-set_same, get_or-set_other, take-suc}
 use borrow.Author.Tests.{lt-ltb, le-ltb, lt-leb}
+use Rattle.std.specs.Prelude.{Option as Maybe, Some, None}
+use Rattle.std.specs.List.{list_all}
+use Rattle.std.proofs.lemmas.List.{get_or-take, get_or-drop, length-take-le}
+use Rattle.std.proofs.lemmas.List.Folds.{list_all-append}
 use Rattle.whole.specs.Tests.{◌and◌, ◌or◌, differ, eq_false, eq_true, eq_test}
 use Rattle.scope.specs.Planes.{is_zero}
 use Rattle.scope.specs.Solids.{Entry, entry}
 use Rattle.scope.specs.Judging.{Sub, uses, all_used, one_tree}
 use Rattle.theory.specs.Text.Counts.{sizes, one_size, one_sizes, Counted, counted, wrong, due_size, size_child, size_front, size_back, size_row}
-use Rattle.tables.specs.Work.{stack, total, marked, all_marked}
+use Rattle.tables.specs.Work.{stack, sizes_in, total, marked, all_marked}
+use Rattle.tables.specs.Promises.{counted_in, grown}
+use Rattle.tables.specs.declared.Child.{Child}
 
 -- ---- the child that a code names
 
@@ -112,6 +118,30 @@ grown_total r f b ks k js = back (size_child (r - 1) b ks) refl
 pub grown_left : (r f b : ℕ) (w : List ℤ) (d k e : ℕ) → size_back r f (size_child (r - 1) b (stack w d)) ≡ some (k ∷ stack w e) → (k + total (stack w e) ≤ suc (total (stack w d))) × (e ≤ d)
 grown_left r f b w d k e h = let s = grown_total r f b (stack w d) k (stack w e) h in (s.0, omega (arith, s.1, stack_length w e, stack_length w d))
 
+-- ---- a slice of the first places
+
+pub stack_take : (w : List ℤ) (k d : ℕ) → d ≤ k → stack (take k w) d ≡ stack w d
+unfolding stack
+stack_take w k zero h = refl
+stack_take w k (suc d) h = λ j. nat_abs (get_or-take k w d (pos 0) (omega arith) j) ∷ stack_take w k d (omega arith) j
+
+module _ (w : List ℤ) (k : ℕ) (h : k ≤ length w) where
+  pub sizes_take : sizes_in (take k w) ≡ stack w k
+  sizes_take = ap (stack (take k w)) (length-take-le k w h) ∙ stack_take w k k (omega arith)
+
+  -- a child of such a slice, and a tree over two, are those of the table
+  pub child_take : (due c : ℕ) (o : Maybe Child) → size_child due c (sizes_in (take k w)) ≡ counted_in (take k w) o → size_child due c (stack w k) ≡ counted_in w o
+  child_take due c None e = rw (← sizes_take) e
+  child_take due c (Some t) e =
+      let l = child_left due c (take k w) (length (take k w)) t.rows t.below e in
+      rw (← sizes_take) (e ∙ ap (counted t.rows) (stack_take w k t.below (omega (arith, l.1, length-take-le k w h))))
+
+  pub grown_take : (r f b : ℕ) (o : Maybe Child) → size_back r f (size_child (r - 1) b (sizes_in (take k w))) ≡ grown (take k w) o → size_back r f (size_child (r - 1) b (stack w k)) ≡ grown w o
+  grown_take r f b None e = rw (← sizes_take) e
+  grown_take r f b (Some t) e =
+      let l = grown_left r f b (take k w) (length (take k w)) t.rows t.below e in
+      rw (← sizes_take) (e ∙ ap (λ ks. some (t.rows ∷ ks)) (stack_take w k t.below (omega (arith, l.1, length-take-le k w h))))
+
 -- ---- stores
 
 pub stack_other : (w : List ℤ) (i : ℕ) (v : ℤ) (d : ℕ) → d ≤ i → stack (set w i v) d ≡ stack w d
@@ -159,27 +189,24 @@ module _ (w : List ℤ) (d p k : ℕ) (low : d < 1000) (room : 1064 ≤ length w
 
 -- ---- marks
 
-pub marks_more : (w : List ℤ) (k : ℕ) → (get_or w (1000 + k) (pos 0) ≡ pos 0 → ⊥) → all_marked w k ≡ true → all_marked w (k + 1) ≡ true
-unfolding all_marked marked
-marks_more w k n h = rw (add-one k, h) (go (get_or w (1000 + k) (pos 0)) n)
-  where
-    go : (z : ℤ) → (z ≡ pos 0 → ⊥) → (not (is_zero z) and true) ≡ true
-    go (pos zero) n = absurd (n refl)
-    go (pos (suc k)) n = refl
-    go (negsuc k) n = refl
+-- a mark is a number that is not zero
+abbrev pub is_mark : ℤ → Bool
+is_mark z = not (is_zero z)
 
-pub marks_fail : (w : List ℤ) (n k : ℕ) → k < n → get_or w (1000 + k) (pos 0) ≡ pos 0 → false ≡ all_marked w n
+pub marks_all : (w : List ℤ) (n : ℕ) → 1000 + n ≤ length w → list_all is_mark (take n (drop 1000 w)) ≡ all_marked w n
 unfolding all_marked marked
-marks_fail w zero k h e = absurd (omega arith)
-marks_fail w (suc n) k h e = by (eqb k n) (eqb→eq k n) (eq_test k n) (λ l. marks_fail w n k l e)
+marks_all w zero h = refl
+marks_all w (suc n) h =
+    ap (list_all is_mark) (take-suc (drop 1000 w) n (pos 0) (simp length-drop (omega arith)))
+    ∙ list_all-append is_mark (take n (drop 1000 w)) (get_or (drop 1000 w) n (pos 0) ∷ [])
+    ∙ (λ t. marks_all w n (omega arith) t && (is_mark (get_or-drop 1000 w n (pos 0) t) && true))
+    ∙ turned (all_marked w n) (marked w n)
   where
-    and_false : (a : Bool) → false ≡ (a and false)
-    and_false true = refl
-    and_false false = refl
-
-    by : (b : Bool) → (T b → k ≡ n) → (k ≡ n → T b) → (k < n → false ≡ all_marked w n) → false ≡ (not (is_zero (get_or w (1000 + n) (pos 0))) and all_marked w n)
-    by true f g r = let i : k ≡ n = f tt in rw (← i, e) refl
-    by false f g r = let o : k ≢ n = g in rw (← r (omega arith)) (and_false (not (is_zero (get_or w (1000 + n) (pos 0)))))
+    turned : (a b : Bool) → (a && (b && true)) ≡ (b and a)
+    turned true true = refl
+    turned true false = refl
+    turned false true = refl
+    turned false false = refl
 
 -- ---- the end: one tree stands, and each plane is used
 

@@ -1,5 +1,5 @@
--- One row more: what stands after it, and the refusal where it falls.
-use mathlib.Core.Path.{◌≡◌, refl, sym, ap, ◌∙◌}
+-- One row more, and what stands after it.
+use mathlib.Core.Path.{refl, sym, ap, ◌∙◌}
 use mathlib.Core.List.{List}
 use Prim.Native.Nat.{ℕ, ◌+◌, ◌*◌}
 use native.Mathlib.Numerals.{add-one}
@@ -12,14 +12,8 @@ use Rattle.theory.specs.Text.Uses.{uses_end}
 use Rattle.theory.specs.Text.Counts.{size_row}
 use Rattle.tables.specs.Rows.{entry_at, entries_to}
 use Rattle.tables.specs.Work.{stack, runs, run_on}
-use Rattle.tables.specs.Promises.{refused_at, sound_or, Stands, Standing, NodesReady}
+use Rattle.tables.specs.Promises.{Stands, Standing, NodesReady}
 use Rattle.tables.specs.declared.Solid.{Solid}
-use Rattle.tables.specs.declared.Judged.{Judged}
-use Rattle.tables.specs.declared.Judged.TheVariants.{Refused}
-
--- a refusal at its line
-pub refused_sound : (s : Solid) (l k : ℕ) {j : Judged} → j ≡ Refused k → refused_at j l ≡ sound_or s l j
-refused_sound s l k e = rw e refl
 
 -- no row stands yet
 pub none_standing : {ns : List ℕ} {s : Solid} {w : List ℤ} → NodesReady ns s w → Standing ns s.planes 0 w 0

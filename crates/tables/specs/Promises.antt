@@ -1,52 +1,48 @@
--- What the functions promise. The enums stand for document 01's numbers, lines and values.
+-- What the functions promise. An answer stands for document 01's value, or for its number (and line) of the refusal.
 --     judged, judgement          a step and a verdict as the code has them
 --     Ready, Pushes              what a row of nodes is given, and what becomes of the work table
 --     PlanesJudged, NodesJudged  all rows of a table, or the first that is refused
 --     Judges                     the public call
 --     SolidOf                    the tables are those of a lawful tree
-use Rattle.std.specs.Prelude.{◌≡◌, Bool, false, cond, List, [], ◌∷◌, ℕ, ◌+◌, ◌*◌, ◌/◌, ◌%◌, ◌≤◌, ◌<◌, leb, eqb, ℤ, pos, length, get_or, replicate}
+use Rattle.std.specs.Prelude.{◌≡◌, ⊤, Bool, false, cond, List, [], ◌∷◌, ℕ, ◌+◌, ◌*◌, ◌/◌, ◌%◌, ◌≤◌, ◌<◌, leb, eqb, ℤ, pos, length, get_or, replicate, Option as Maybe, Some, None, Result, Ok, Err}
 use Rattle.std.proofs.Math.Option.{Option, none, some}
 use Rattle.whole.specs.Tests.{◌or◌}
 use Rattle.scope.specs.Planes.{fault}
 use Rattle.scope.specs.Solids.{Tree, tables, tables_of, LawfulTree}
 use Rattle.scope.specs.Limits.{stated}
-use Rattle.scope.specs.Judging.{fresh, judge_head, uses, Step, go, done, stop, follows, plane_by, end_by, Verdict, accepted, refusal, judge_lent}
+use Rattle.scope.specs.Judging.{fresh, uses, Step, go, done, stop, follows, plane_by, end_by, Verdict, accepted, refusal, judge_lent}
 use Rattle.theory.specs.Text.Counts.{Counted, counted, wrong, size_row}
-use Rattle.theory.specs.Text.Lent.{lent, lent_rooms, Flat}
+use Rattle.theory.specs.Text.Lent.{lent, Flat}
 use Rattle.tables.specs.Rows.{plane_at, entry_at, last_before, entries_to}
 use Rattle.tables.specs.Work as work
 use Rattle.tables.specs.declared.Solid.{Solid}
-use Rattle.tables.specs.declared.Judged as Judged
-use Rattle.tables.specs.declared.Judgement as Judgement
-use Rattle.tables.specs.declared.Taken as Taken
-use Rattle.tables.specs.declared.Pushed as Pushed
-use Rattle.tables.specs.declared.Stood as Stood
+use Rattle.tables.specs.declared.Child.{Child}
 
 -- ---- one row
 
 -- the number of a refusal, or none
-abbrev pub judged : Step → Judged.Judged
-judged (go s) = Judged.TheVariants.Fine
-judged (done a) = Judged.TheVariants.Fine
-judged (stop n) = Judged.TheVariants.Refused n
+abbrev pub judged : Step → Result ⊤ ℕ
+judged (go s) = Ok tt
+judged (done a) = Ok tt
+judged (stop n) = Err n
 
 -- a row of the planes: 4, then 5
-abbrev pub plane_judged : List ℤ → ℕ → Judged.Judged
+abbrev pub plane_judged : List ℤ → ℕ → Result ⊤ ℕ
 plane_judged xs i = judged (plane_by (fault (plane_at xs i)) (follows (last_before xs i) (plane_at xs i)) fresh)
 
 -- the end: 5, then 6
-abbrev pub end_judged : Bool → Bool → Judged.Judged
+abbrev pub end_judged : Bool → Bool → Result ⊤ ℕ
 end_judged b c = judged (end_by b c (tables [] [] 0))
 
 -- the size of a child and the sizes left below it
-abbrev pub counted_in : List ℤ → Taken.Taken → Counted
-counted_in w (Taken.TheVariants.Child k d) = counted k (work.stack w d)
-counted_in w Taken.TheVariants.Against = wrong
+abbrev pub counted_in : List ℤ → Maybe Child → Counted
+counted_in w (Some c) = counted c.rows (work.stack w c.below)
+counted_in w None = wrong
 
 -- the size of a new tree on the sizes left below it
-abbrev pub grown : List ℤ → Taken.Taken → Option (List ℕ)
-grown w (Taken.TheVariants.Child k d) = some (k ∷ work.stack w d)
-grown w Taken.TheVariants.Against = none
+abbrev pub grown : List ℤ → Maybe Child → Option (List ℕ)
+grown w (Some c) = some (c.rows ∷ work.stack w c.below)
+grown w None = none
 
 -- what row r of the nodes is given: the sizes of at most r trees, which have at most r rows
 pub record Ready (ns : List ℕ) (n r : ℕ) (w : List ℤ) (depth : ℕ) : Type 0 where
@@ -72,42 +68,31 @@ pub record Falls (ns : List ℕ) (n r : ℕ) (w : List ℤ) (depth : ℕ) (w' : 
   pub same : w' ≡ w
 
 -- what becomes of a row of the nodes
-abbrev pub Pushes : List ℕ → ℕ → ℕ → List ℤ → ℕ → List ℤ → Pushed.Pushed → Type 0
-Pushes ns n r w depth w' (Pushed.TheVariants.Depth d) = Stands ns n r w depth w' d
-Pushes ns n r w depth w' (Pushed.TheVariants.Refused k) = Falls ns n r w depth w' k
+abbrev pub Pushes : List ℕ → ℕ → ℕ → List ℤ → ℕ → List ℤ → Result ℕ ℕ → Type 0
+Pushes ns n r w depth w' (Ok d) = Stands ns n r w depth w' d
+Pushes ns n r w depth w' (Err k) = Falls ns n r w depth w' k
 
 -- ---- all rows
 
-abbrev pub refused_at : Judged.Judged → ℕ → Judgement.Judgement
-refused_at Judged.TheVariants.Fine l = Judgement.TheVariants.Refused 0 l
-refused_at (Judged.TheVariants.Refused k) l = Judgement.TheVariants.Refused k l
-
--- a solid, or the refusal of one of its lines
-abbrev pub sound_or : Solid → ℕ → Judged.Judged → Judgement.Judgement
-sound_or s l Judged.TheVariants.Fine = Judgement.TheVariants.Sound s
-sound_or s l (Judged.TheVariants.Refused k) = Judgement.TheVariants.Refused k l
+-- a step at its line
+abbrev pub on_line : ℕ → Result ⊤ ℕ → Result ⊤ (ℕ × ℕ)
+on_line l (Ok u) = Ok u
+on_line l (Err k) = Err (k, l)
 
 -- the counts of lent tables
 abbrev pub counts : List ℤ → List ℕ → ℕ → Solid
 counts xs ns r = record { planes = length xs / 4; nodes = length ns / 3; root = r }
 
-abbrev pub counts_judged : List ℤ → List ℕ → ℕ → Judgement.Judgement
-counts_judged xs ns r = sound_or (counts xs ns r) 1 (judged (judge_head (lent_rooms xs ns) (length xs / 4) (length ns / 3) r))
-
 pub record PlaneRefused (xs : List ℤ) (n k l : ℕ) : Type 0 where
   pub row : ℕ
   pub inside : row < n
   pub line : l ≡ 2 + row
-  pub earlier : (i : ℕ) → i < row → plane_judged xs i ≡ Judged.TheVariants.Fine
-  pub here : plane_judged xs row ≡ Judged.TheVariants.Refused k
+  pub earlier : (i : ℕ) → i < row → plane_judged xs i ≡ Ok tt
+  pub here : plane_judged xs row ≡ Err k
 
-pub record PlanesFine (xs : List ℤ) (s t : Solid) : Type 0 where
-  pub same : t ≡ s
-  pub each : (i : ℕ) → i < s.planes → plane_judged xs i ≡ Judged.TheVariants.Fine
-
-abbrev pub PlanesJudged : List ℤ → Solid → Judgement.Judgement → Type 0
-PlanesJudged xs s (Judgement.TheVariants.Sound t) = PlanesFine xs s t
-PlanesJudged xs s (Judgement.TheVariants.Refused k l) = PlaneRefused xs s.planes k l
+abbrev pub PlanesJudged : List ℤ → ℕ → Result ⊤ (ℕ × ℕ) → Type 0
+PlanesJudged xs n (Ok u) = (i : ℕ) → i < n → plane_judged xs i ≡ Ok tt
+PlanesJudged xs n (Err r) = PlaneRefused xs n r.0 r.1
 
 -- i rows stand, and the planes marked are those that they use
 pub record Standing (ns : List ℕ) (n i : ℕ) (w : List ℤ) (d : ℕ) : Type 0 where
@@ -131,27 +116,27 @@ pub record NodeRefused (ns : List ℕ) (n m k l : ℕ) : Type 0 where
   pub earlier : work.runs ns n row ≡ some sizes
   pub here : size_row n row sizes (entry_at ns row) ≡ none
 
-abbrev pub NodesJudged : List ℕ → Solid → List ℤ → Stood.Stood → Type 0
-NodesJudged ns s w (Stood.TheVariants.Depth d) = Standing ns s.planes s.nodes w d
-NodesJudged ns s w (Stood.TheVariants.Refused k l) = NodeRefused ns s.planes s.nodes k l
+abbrev pub NodesJudged : List ℕ → Solid → List ℤ → Result ℕ (ℕ × ℕ) → Type 0
+NodesJudged ns s w (Ok d) = Standing ns s.planes s.nodes w d
+NodesJudged ns s w (Err r) = NodeRefused ns s.planes s.nodes r.0 r.1
 
 -- the line after the nodes
-abbrev pub close_judged : List ℕ → Solid → List ℤ → ℕ → Judgement.Judgement
-close_judged ns s w d = cond (eqb (length ns % 3) 0) (sound_or s (2 + s.planes + s.nodes) (end_judged (work.all_marked w s.planes) (leb d 1))) (Judgement.TheVariants.Refused 2 (2 + s.planes + s.nodes))
+abbrev pub close_judged : List ℕ → Solid → List ℤ → ℕ → Result ⊤ (ℕ × ℕ)
+close_judged ns s w d = on_line (2 + s.planes + s.nodes) (cond (eqb (length ns % 3) 0) (end_judged (work.all_marked w s.planes) (leb d 1)) (Err 2))
 
 -- ---- the calls
 
 -- a verdict as the code has it: the counts of tables that are accepted are those lent
-abbrev pub judgement : List ℤ → List ℕ → ℕ → Verdict → Judgement.Judgement
-judgement xs ns r (accepted a) = Judgement.TheVariants.Sound (counts xs ns r)
-judgement xs ns r (refusal k l) = Judgement.TheVariants.Refused k l
+abbrev pub judgement : List ℤ → List ℕ → ℕ → Verdict → Result Solid (ℕ × ℕ)
+judgement xs ns r (accepted a) = Ok (counts xs ns r)
+judgement xs ns r (refusal k l) = Err (k, l)
 
 -- R.8, R.12: a work table that is too short comes first, at line 0
-abbrev pub judge_answer : ℕ → List ℤ → List ℕ → ℕ → Judgement.Judgement
-judge_answer n xs ns r = cond (leb stated n) (judgement xs ns r (judge_lent (lent xs ns r))) (Judgement.TheVariants.Refused 8 0)
+abbrev pub judge_answer : ℕ → List ℤ → List ℕ → ℕ → Result Solid (ℕ × ℕ)
+judge_answer n xs ns r = cond (leb stated n) (judgement xs ns r (judge_lent (lent xs ns r))) (Err (8, 0))
 
 -- `judge`: the answer, and a work table of zeros whatever it is
-pub record Judges (xs : List ℤ) (ns : List ℕ) (r : ℕ) (w w' : List ℤ) (j : Judgement.Judgement) : Type 0 where
+pub record Judges (xs : List ℤ) (ns : List ℕ) (r : ℕ) (w w' : List ℤ) (j : Result Solid (ℕ × ℕ)) : Type 0 where
   pub exact : j ≡ judge_answer (length w) xs ns r
   pub zeros : w' ≡ replicate (length w) (pos 0)
 

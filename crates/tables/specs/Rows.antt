@@ -2,14 +2,14 @@
 --     plane_at, entry_at          row i of a table
 --     planes_to, entries_to       the rows before row i
 --     last_before                 the plane before row i, if there is one
-use Rattle.std.specs.Prelude.{List, [], ◌∷◌, ◌++◌, ℕ, zero, suc, ◌+◌, ◌*◌, ℤ, pos, get_or}
+use Rattle.std.specs.Prelude.{List, [], ◌∷◌, ◌++◌, ℕ, zero, suc, ◌+◌, ◌*◌, ℤ, get_or}
 use Rattle.std.proofs.Math.Option.{Option, none, some}
 use Rattle.scope.specs.Planes.{Plane}
 use Rattle.scope.specs.Solids.{Entry, entry}
-use Rattle.planes.specs.Values.{quad}
+use Rattle.planes.specs.Values.{four_at}
 
 abbrev pub plane_at : List ℤ → ℕ → Plane
-plane_at xs i = quad (get_or xs (4 * i) (pos 0)) (get_or xs (4 * i + 1) (pos 0)) (get_or xs (4 * i + 2) (pos 0)) (get_or xs (4 * i + 3) (pos 0))
+plane_at xs i = four_at xs (4 * i)
 
 abbrev pub entry_at : List ℕ → ℕ → Entry
 entry_at ns i = entry (get_or ns (3 * i) 0) (get_or ns (3 * i + 1) 0) (get_or ns (3 * i + 2) 0)

@@ -17,26 +17,24 @@ use Rattle.scope.specs.Answers as scope
 use Rattle.theory.specs.Answers.{sound_tables}
 use Rattle.theory.specs.Text.Judge.{judge_read}
 use Rattle.tables.specs.declared.Solid.{Solid}
-use Rattle.tables.specs.declared.Judgement as Judgement
-use Rattle.solids.specs.declared.Written as Written
+use Rattle.std.specs.Prelude.{Result, Ok, Err}
 use Rattle.lines.specs.Reading.{rooms}
 use Rattle.solids.specs.Reading.{judgement, ReadTold}
 use Rattle.solids.specs.Follows.{read_given}
 use Rattle.solids.specs.Follows as reading
-use Rattle.results.specs.declared.Given.{Given}
 use Rattle.forms.specs.Promises.{NormalTold}
-use Rattle.outputs.specs.Outputs.{in_room, Refuses, Gave, WriteTold}
-use Rattle.outputs.proofs.Held.{held_lent}
+use Rattle.outputs.specs.Outputs.{in_room, Outcome, Gave, RowsLent, WriteTold}
+use Rattle.outputs.proofs.Held.{rows_lent}
 use Rattle.texts.specs.Answers.{forming, formed_text}
-use Rattle.texts.specs.Steps.{not_read, WithTold, SolidIn, ResultIn, Holds, Forming, SolidFormed}
+use Rattle.texts.specs.Steps.{WithTold, SolidIn, ResultIn, Holds, Forming, SolidFormed}
 use Rattle.texts.specs.Lawful.{form_given_lawful}
-use Rattle.texts.proofs.Calls.{from_work, result_gave}
+use Rattle.texts.proofs.Calls.{from_work, result_gave, no_text, no_result}
 
 -- ---- the form's answer
 
-module _ {s : Solid} {pa : List ℤ} {na : List ℕ} (a : Holds s pa na) {xs xs' : List ℤ} {ns ns' : List ℕ} {w w' : List ℤ} {m : Given} (i : ResultIn xs ns w) (h : NormalTold (take (4 * s.planes - 0) pa) (take (3 * s.nodes - 0) na) s.root xs xs' ns ns' w w' m) where
+module _ {s : Solid} {pa : List ℤ} {na : List ℕ} (a : Holds s pa na) {ya : List ℤ} {ma : List ℕ} {ra : ℕ} (la : RowsLent s pa na ya ma ra) {xs xs' : List ℤ} {ns ns' out : List ℕ} {w w' : List ℤ} {m : Result Solid ℕ} (i : ResultIn xs ns out w) (h : NormalTold ya ma ra xs xs' ns ns' w w' m) where
   formed_right : FormBy program_rooms (accepted a.is) h.answer
-  formed_right = subst (λ x. x) (λ j. FormBy (record { plane_rows = plane_rows j; node_rows = node_rows j }) (held_lent s pa na a.is a.lawful a.held j) h.answer) (from_work i.enough h.exact)
+  formed_right = subst (λ x. x) (λ j. FormBy (record { plane_rows = plane_rows j; node_rows = node_rows j }) (rows_lent s pa na la a.is a.lawful a.held j) h.answer) (from_work i.enough h.exact)
     where
       plane_rows : length xs / 4 ≡ 128
       plane_rows = omega (arith, i.planes)
@@ -47,12 +45,12 @@ module _ {s : Solid} {pa : List ℤ} {na : List ℕ} (a : Holds s pa na) {xs xs'
   pub form_gave : length xs' ≡ length xs → length ns' ≡ length ns → Gave h.answer xs' ns' m
   form_gave = result_gave h (λ c e. form_given_lawful (sound_tables a.lawful) formed_right e)
 
-  pub forming_told : length xs' ≡ length xs → length ns' ≡ length ns → {out out' : List ℕ} {r : Written.Written} → WriteTold m xs' ns' out out' r → Forming a.is out out' r
-  forming_told lx ln f = record { answer = h.answer; exact = formed_right; outcome = f h.answer (form_gave lx ln) }
+  pub forming_told : {out₁ out' : List ℕ} {r : Result ℕ ℕ} → Outcome (in_room (length out₁) h.answer) out₁ out' r → Forming a.is out₁ out' r
+  forming_told f = record { answer = h.answer; exact = formed_right; outcome = f }
 
 -- ---- the text
 
-module _ {t : List ℕ} {xs xs' : List ℤ} {ns ns' : List ℕ} {w w' : List ℤ} {j : Judgement.Judgement} (i : SolidIn xs ns) (enough : stated ≤ length w) (h : ReadTold t xs xs' ns ns' w w' j) where
+module _ {t : List ℕ} {xs xs' : List ℤ} {ns ns' : List ℕ} {w w' : List ℤ} {j : Result Solid (ℕ × ℕ)} (i : SolidIn xs ns) (enough : stated ≤ length w) (h : ReadTold t xs xs' ns ns' w w' j) where
   rooms_are : rooms xs ns ≡ operand_rooms
   rooms_are = λ k. record { plane_rows = plane_rows k; node_rows = node_rows k }
     where
@@ -65,14 +63,14 @@ module _ {t : List ℕ} {xs xs' : List ℤ} {ns ns' : List ℕ} {w w' : List ℤ
   judged : j ≡ judgement (judge operand_rooms t)
   judged = h.answer ∙ ap (λ b. judgement (cond b (judge (rooms xs ns) t) (refusal 8 0))) (le-leb stated (length w) enough) ∙ ap (λ r. judgement (judge r t)) rooms_are
 
-  pub solid_refused : {out out' : List ℕ} {k l : ℕ} → j ≡ Judgement.TheVariants.Refused k l → {r : Written.Written} → Refuses (not_read j) out out' r → WithTold forming t out out' r
-  solid_refused {out} {out'} {k} {l} e f = rw (f.number ∙ ap (λ j. Written.TheVariants.Refused (not_read j)) e) (record { answer = refused k; exact = formed_text {r = refused k} (scope.solid_refused (by (judge operand_rooms t) (sym judged ∙ e))); outcome = record { told = refl; text = f.text ∙ ap (λ n. replicate {A = ℕ} n 0) {x = length out} {y = length out - 0} (omega arith) } })
+  pub solid_refused : {out : List ℕ} {k l : ℕ} → out ≡ replicate (length out) 0 → j ≡ Err (k, l) → WithTold forming t out out (Err k)
+  solid_refused {k = k} {l = l} z e = record { answer = refused k; exact = formed_text {r = refused k} (scope.solid_refused (by (judge operand_rooms t) (sym judged ∙ e))); outcome = no_text z }
     where
-      by : (v : Verdict) → judgement v ≡ Judgement.TheVariants.Refused k l → v ≡ refusal k l
+      by : (v : Verdict) → judgement v ≡ Err (k, l) → v ≡ refusal k l
       by (accepted a) q = differ (cc)
-      by (refusal n m) q = cc
+      by (refusal n m) q = let d : ◌≡◌ {A = ℕ × ℕ} (n, m) (k, l) = cc in λ i. refusal (d i).0 (d i).1
 
-  module _ {s : Solid} (e : j ≡ Judgement.TheVariants.Sound s) where
+  module _ {s : Solid} (e : j ≡ Ok s) where
     pub read_in : reading.Given t (rooms xs ns) (length w) s
     read_in = read_given (sym e ∙ h.answer)
 
@@ -86,5 +84,5 @@ module _ {t : List ℕ} {xs xs' : List ℤ} {ns ns' : List ℕ} {w w' : List ℤ
       held = record { counts = read_in.counts; planes = h.planes ∙ ap (left (pos 0) (length xs) plane_numbers) read_in.told ∙ ap (λ n. left (pos 0) n plane_numbers (given read_in.is)) (sym lx); nodes = h.nodes ∙ ap (left 0 (length ns) node_numbers) read_in.told ∙ ap (λ n. left 0 n node_numbers (given read_in.is)) (sym ln) };
     }
 
-    pub solid_formed : (lx : length xs' ≡ length xs) (ln : length ns' ≡ length ns) → {out out' : List ℕ} {r : Written.Written} → SolidFormed s xs' ns' out out' r → WithTold forming t out out' r
+    pub solid_formed : (lx : length xs' ≡ length xs) (ln : length ns' ≡ length ns) → {out out' : List ℕ} {r : Result ℕ ℕ} → SolidFormed s xs' ns' out out' r → WithTold forming t out out' r
     solid_formed lx ln {out} f = let g = f (solid_held lx ln) in record { answer = in_room (length out) g.answer; exact = formed_text (subst (λ v. FormBy program_rooms v g.answer) (sym accepts) g.exact); outcome = g.outcome }

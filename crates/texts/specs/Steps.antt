@@ -1,31 +1,19 @@
 -- What the steps of the merge and of the normal form of a text promise.
---     not_ordered, not_read   what an order and a solid refuse, told of the text
 --     WithTold, SolidIn, ResultIn, WorkIn, TablesIn, Holds   the answer, and the tables that are lent on the way
 --     OrderIn, Merging, OrderMerged, FormIn, Forming, SolidFormed   a merge and a normal form of solids that stand in tables
-use Rattle.std.specs.Prelude.{◌≡◌, List, ℕ, ◌≤◌, ℤ, pos, length, replicate}
+use Rattle.std.specs.Prelude.{◌≡◌, List, ℕ, ◌≤◌, ℤ, pos, length, replicate, Result}
 use Rattle.scope.specs.Limits.{stated}
 use Rattle.scope.specs.Solids.{Tables}
 use Rattle.scope.specs.Judging.{accepted}
 use Rattle.scope.specs.Answers.{Answer, MergeBy, FormBy, program_rooms}
 use Rattle.theory.specs.Text.Trees.{LawfulTables}
 use Rattle.tables.specs.declared.Solid.{Solid}
-use Rattle.tables.specs.declared.Judgement as Judgement
-use Rattle.solids.specs.declared.Written as Written
-use Rattle.inputs.specs.declared.OrderRead as OrderRead
+use Rattle.inputs.specs.declared.Order.{Order}
 use Rattle.inputs.specs.Orders.{HoldsSolid}
 use Rattle.outputs.specs.Outputs.{in_room, Outcome}
 use Rattle.texts.specs.Answers.{Job, AnswerTo}
 
--- the number of a refusal; what is read has none, and 0 is told
-abbrev pub not_ordered : OrderRead.OrderRead → ℕ
-not_ordered (OrderRead.TheVariants.Refused k l) = k
-not_ordered (OrderRead.TheVariants.Order o a b) = 0
-
-abbrev pub not_read : Judgement.Judgement → ℕ
-not_read (Judgement.TheVariants.Refused k l) = k
-not_read (Judgement.TheVariants.Sound s) = 0
-
-pub record WithTold (job : Job) (t out out' : List ℕ) (r : Written.Written) : Type 0 where
+pub record WithTold (job : Job) (t out out' : List ℕ) (r : Result ℕ ℕ) : Type 0 where
   pub answer : Answer (List ℕ)
   pub exact : AnswerTo job t (length out) answer
   pub outcome : Outcome answer out out' r
@@ -35,10 +23,11 @@ pub record SolidIn (ap : List ℤ) (an : List ℕ) : Type 0 where
   pub planes : length ap ≡ 256
   pub nodes : length an ≡ 3000
 
--- 128 plane rows and 1,000 node rows for the result, and enough work
-pub record ResultIn (xs : List ℤ) (ns : List ℕ) (w : List ℤ) : Type 0 where
+-- 128 plane rows and 1,000 node rows for the result, a text of zeros, and enough work
+pub record ResultIn (xs : List ℤ) (ns : List ℕ) (out : List ℕ) (w : List ℤ) : Type 0 where
   pub planes : length xs ≡ 512
   pub nodes : length ns ≡ 3000
+  pub blank : out ≡ replicate (length out) 0
   pub enough : stated ≤ length w
 
 pub record WorkIn (w : List ℤ) : Type 0 where
@@ -46,10 +35,10 @@ pub record WorkIn (w : List ℤ) : Type 0 where
   pub zeros : w ≡ replicate (length w) (pos 0)
 
 -- tables for the operands and for the result, and a work table of zeros
-pub record TablesIn (ap : List ℤ) (an : List ℕ) (bp : List ℤ) (bn : List ℕ) (xs : List ℤ) (ns : List ℕ) (w : List ℤ) : Type 0 where
+pub record TablesIn (ap : List ℤ) (an : List ℕ) (bp : List ℤ) (bn : List ℕ) (xs : List ℤ) (ns out : List ℕ) (w : List ℤ) : Type 0 where
   pub first : SolidIn ap an
   pub second : SolidIn bp bn
-  pub result : ResultIn xs ns w
+  pub result : ResultIn xs ns out w
   pub zeros : w ≡ replicate (length w) (pos 0)
 
 -- a lawful solid in tables
@@ -60,29 +49,29 @@ pub record Holds (s : Solid) (ap : List ℤ) (an : List ℕ) : Type 0 where
 
 -- ---- a merge
 
-pub record OrderIn (s u : Solid) (ap : List ℤ) (an : List ℕ) (bp : List ℤ) (bn : List ℕ) (xs : List ℤ) (ns : List ℕ) (w : List ℤ) : Type 0 where
-  pub first : Holds s ap an
-  pub second : Holds u bp bn
-  pub result : ResultIn xs ns w
+pub record OrderIn (o : Order) (ap : List ℤ) (an : List ℕ) (bp : List ℤ) (bn : List ℕ) (xs : List ℤ) (ns out : List ℕ) (w : List ℤ) : Type 0 where
+  pub first : Holds o.a ap an
+  pub second : Holds o.b bp bn
+  pub result : ResultIn xs ns out w
 
-pub record Merging (op : ℕ) (a b : Tables) (out out' : List ℕ) (r : Written.Written) : Type 0 where
+pub record Merging (op : ℕ) (a b : Tables) (out out' : List ℕ) (r : Result ℕ ℕ) : Type 0 where
   pub answer : Answer Tables
   pub exact : MergeBy program_rooms op (accepted a) (accepted b) answer
   pub outcome : Outcome (in_room (length out) answer) out out' r
 
-abbrev pub OrderMerged : ℕ → Solid → Solid → List ℤ → List ℕ → List ℤ → List ℕ → List ℕ → List ℕ → Written.Written → Type 0
-OrderMerged op s u ap an bp bn out out' r = (a : Holds s ap an) (b : Holds u bp bn) → Merging op a.is b.is out out' r
+abbrev pub OrderMerged : Order → List ℤ → List ℕ → List ℤ → List ℕ → List ℕ → List ℕ → Result ℕ ℕ → Type 0
+OrderMerged o ap an bp bn out out' r = (a : Holds o.a ap an) (b : Holds o.b bp bn) → Merging o.op a.is b.is out out' r
 
 -- ---- a normal form
 
-pub record FormIn (s : Solid) (ap : List ℤ) (an : List ℕ) (xs : List ℤ) (ns : List ℕ) (w : List ℤ) : Type 0 where
+pub record FormIn (s : Solid) (ap : List ℤ) (an : List ℕ) (xs : List ℤ) (ns out : List ℕ) (w : List ℤ) : Type 0 where
   pub solid : Holds s ap an
-  pub result : ResultIn xs ns w
+  pub result : ResultIn xs ns out w
 
-pub record Forming (a : Tables) (out out' : List ℕ) (r : Written.Written) : Type 0 where
+pub record Forming (a : Tables) (out out' : List ℕ) (r : Result ℕ ℕ) : Type 0 where
   pub answer : Answer Tables
   pub exact : FormBy program_rooms (accepted a) answer
   pub outcome : Outcome (in_room (length out) answer) out out' r
 
-abbrev pub SolidFormed : Solid → List ℤ → List ℕ → List ℕ → List ℕ → Written.Written → Type 0
+abbrev pub SolidFormed : Solid → List ℤ → List ℕ → List ℕ → List ℕ → Result ℕ ℕ → Type 0
 SolidFormed s ap an out out' r = (a : Holds s ap an) → Forming a.is out out' r

@@ -1,8 +1,9 @@
 -- The node's walk and the side's walk: what each call is given, and what comes of its answer. One lemma for both sides of a node.
 --     node_row, node_deep              the row, and room for one more half-space on the path
---     Pushed, side_in, side_kept, side_emits    a side: what its walk is given, what it leaves of the path, and the rows that it put out
+--     Pushed, front_pushed, back_pushed    a half-space of the row on the path
+--     side_in, side_kept, side_emits    a side: what its walk is given, what it leaves of the path, and the rows that it put out
 --     node_front, node_back, node_closed        the node's walk, from the answers of its sides
---     step_in, cut_in, code_in, end_in, below_in    what the calls of a side's walk are given
+--     cut_in, code_in, end_in, below_in    what the calls of a side's walk are given
 --     side_code, side_mark, side_b                  the side's walk, from the answers of these
 use mathlib.Core.Path.{◌≡◌, refl, sym, ap, subst, ◌∙◌}
 use mathlib.Core.Bool.{Bool, true, false}
@@ -16,12 +17,13 @@ use borrow.Author.Tests.{eqb-true, eqb-false}
 use lib.IntN.{ℤ, pos}
 use lib.ListN.{length, get_or}
 use Rattle.whole.specs.Tests.{differ, is_true}
-use Rattle.scope.specs.Planes.{Plane, in_range}
+use Rattle.scope.specs.Planes.{Plane, flip, in_range}
 use Rattle.scope.specs.Solids.{Mark, Tree, leaf, node, mark, number, place}
 use Rattle.scope.specs.Cells.{Cuts, end, join, Operation, operate}
 use Rattle.scope.specs.Text.{operation_code}
 use Rattle.theory.specs.Cells.Sides.{half}
 use Rattle.theory.specs.Cells.Path.{take, kept_few}
+use Rattle.std.specs.Prelude.{Ok, Err, Option as Maybe, Some, None}
 use Rattle.planes.specs.Values.{plane, meeting}
 use Rattle.planes.specs.Bounds.{PlaneIn, in_range_in}
 use Rattle.planes.specs.declared.Plane as struct
@@ -31,16 +33,14 @@ use Rattle.cells.specs.Paths as paths
 use Rattle.cells.specs.Paths.{OnPath, PathIn, Witness}
 use Rattle.cells.proofs.Paths.{on_rows, on_kept, on_links, links_same, on_same, pushed_before, on_push}
 use Rattle.walks.specs.declared.Turn.{Turn}
-use Rattle.walks.specs.declared.Ended.{Ended}
+use Rattle.walks.specs.declared.rows.Operands.{Operands}
 use Rattle.walks.specs.declared.Reached as Reached
-use Rattle.walks.specs.declared.Walked.{Walked as Answer}
-use Rattle.walks.specs.declared.Walked.TheVariants.{Done, Refused}
-use Rattle.walks.specs.Standing.{rows_of, offset, list, plane_number, RowIs, Stands}
-use Rattle.walks.specs.Putting.{Room, Closed, Emitted}
+use Rattle.walks.specs.Standing.{offset, list, walked, number_at, RowIs, Stands}
+use Rattle.walks.specs.Putting.{Walked as Answer, Room, Closed, Emitted}
 use Rattle.walks.specs.Marks.{turn_code, EndIn, EndsAs, in_b, alone, asks, EndIs}
-use Rattle.walks.specs.Walks.{In, Ends, WalkedIn, Ground, StandsIn, Here, SideIn, NodeIn, StepIn, ToCode, Leads, StepTold, Did}
+use Rattle.walks.specs.Walks.{In, Ends, WalkedIn, Ground, StandsIn, Here, SideIn, NodeIn, ToCode, Leads, StepTold, Did}
 use Rattle.walks.proofs.RowsRead.{offset_b, in_b as in-b-rows}
-use Rattle.walks.proofs.Emits.{room?, room_same, got, mark_done, closed, front_lost, back_lost}
+use Rattle.walks.proofs.Emits.{room?, room_same, no_rows, done_same, got, mark_done, closed, front_lost, back_lost}
 use Rattle.walks.proofs.Ways.{RowAt, as_row, as_mark, code_small, BothSides, walk_cut, second_alone}
 
 -- a path leads to one cell
@@ -57,20 +57,16 @@ abbrev result : {J : Plane → Tree → Tree → Tree} {L : List Plane → Mark 
 result true bs = bs.front
 result false bs = bs.back
 
--- an answer that is a refusal gives no rows
-no_rows : {z : Answer} {j e m : ℕ} → z ≡ Refused j → z ≡ Done e m → ⊥
-no_rows {j = j} {e = e} {m = m} f g = let d : Refused j ≡ Done e m = sym f ∙ g in differ (cc)
-
 -- a node that is closed has room for the rows that it says
-closed_placed : {o₂ o₃ : List ℕ} {n₂ n f g : ℕ} {z : Answer} {e m : ℕ} → Closed o₂ o₃ n₂ n f g z → Room o₂ n₂ → z ≡ Done e m → Room o₂ m
-closed_placed {o₂} {n₂ = n₂} {f = f} {g = g} {z = z} {e = e} {m = m} c w d = go (eqb f g) refl (dec_le 65534 f)
+closed_placed : {o₂ o₃ : List ℕ} {n₂ n f g : ℕ} {z : Answer} {e m : ℕ} → Closed o₂ o₃ n₂ n f g z → Room o₂ n₂ → z ≡ Ok (e, m) → Room o₂ m
+closed_placed {o₂} {n₂ = n₂} {f = f} {g = g} {m = m} c w d = go (eqb f g) refl (dec_le 65534 f)
   where
     put : (f ≡ g → f < 65534) → Dec (Room o₂ (suc n₂)) → Room o₂ m
-    put k (yes r) = let i : Done e m ≡ Done n₂ (suc n₂) = sym d ∙ ((c.row k).fits r).0 in let j : m ≡ suc n₂ = cc in subst (Room o₂) (sym j) r
+    put k (yes r) = subst (Room o₂) (sym (done_same d ((c.row k).fits r).0).1) r
     put k (no r) = absurd (no_rows ((c.row k).over r) d)
 
     go : (b : Bool) → eqb f g ≡ b → Dec (65534 ≤ f) → Room o₂ m
-    go true i (yes l) = let j : Done e m ≡ Done f n₂ = sym d ∙ (c.same (eqb-true f g i) l).0 in let k : m ≡ n₂ = cc in subst (Room o₂) (sym k) w
+    go true i (yes l) = subst (Room o₂) (sym (done_same d (c.same (eqb-true f g i) l).0).1) w
     go true i (no l) = put (λ k. omega (arith, l)) (room? o₂ (suc n₂))
     go false i l = put (λ k. absurd (eqb-false f g i k)) (room? o₂ (suc n₂))
 
@@ -83,24 +79,24 @@ back_falls {r = r} h e = subst (λ c. c < 65534 → c < r) (sym e) h.back_less
 
 -- ---- a node
 
-module _ {xs : List ℤ} {numbers a b : List ℕ} {t : Turn} {path₀ : List ℤ} {depth : ℕ} {first second : List ℤ} {out₀ : List ℕ} {next r : ℕ} {x : Meeting} (h : NodeIn xs numbers a b t path₀ depth first second out₀ next r x) where
+module _ {o : Operands} {t : Turn} {path₀ : List ℤ} {depth : ℕ} {out₀ : List ℕ} {next r : ℕ} {x : Meeting} (h : NodeIn o t path₀ depth out₀ next r x) where
   abbrev ns : List ℕ
-  ns = rows_of t.mark a b
+  ns = walked o t.mark
 
   abbrev place_of : ℕ
-  place_of = plane_number numbers (offset t.mark) ns r
+  place_of = number_at o t.mark r
 
   abbrev the_plane : Plane
-  the_plane = plane_at xs place_of
+  the_plane = plane_at o.planes.now place_of
 
-  pub node_row : RowAt xs numbers ns (offset t.mark) r h.side.here.tree
+  pub node_row : RowAt o.planes.now o.numbers.now ns (offset t.mark) r h.side.here.tree
   node_row = as_row h.row h.side.here.stands
 
-  own : RowIs xs numbers ns (offset t.mark) r node_row.plane
+  own : RowIs o.planes.now o.numbers.now ns (offset t.mark) r node_row.plane
   own = node_row.row
 
-  plane_in : In xs the_plane
-  plane_in = subst (In xs) (sym own.plane) (record { lawful = h.side.grounds.lawful node_row.plane own.member; member = own.member })
+  plane_in : In o.planes.now the_plane
+  plane_in = subst (In o.planes.now) (sym own.plane) (record { lawful = h.side.grounds.lawful node_row.plane own.member; member = own.member })
 
   cuts : Cuts the_plane h.side.here.cell
   cuts = record { point = meeting x; on = h.witness.on; inside = h.witness.inside }
@@ -128,140 +124,141 @@ module _ {xs : List ℤ} {numbers a b : List ℕ} {t : Turn} {path₀ : List ℤ
     pub table : paths.Pushed path path' depth half_space x
     pub long' : length path' ≡ length path
 
+  -- its front first, and then its back
+  module _ {p : struct.Plane} (e : plane p ≡ the_plane) where
+    pub front_pushed : {path' : List ℤ} → paths.Pushed path₀ path' depth p x → length path' ≡ length path₀ → Pushed true path₀ path'
+    front_pushed {path'} k l = record { half_space = p; is = e; before = λ i l. refl; long = refl; table = k; long' = l }
+
+    pub back_pushed : {path path' : List ℤ} {b : struct.Plane} → plane b ≡ flip (plane p) → ((i : ℕ) → i < depth * 9 → get_or path i (pos 0) ≡ get_or path₀ i (pos 0)) → length path ≡ length path₀ → paths.Pushed path path' depth b x → length path' ≡ length path → Pushed false path path'
+    back_pushed {b = b} f before long k l = record { half_space = b; is = f ∙ ap flip e; before = before; long = long; table = k; long' = l }
+
   module _ (s : Bool) {path path' : List ℤ} (k : Pushed s path path') where
     -- on the path is the half of the cell
-    on_half : {c : List Plane} → OnPath (In xs) path₀ depth c → OnPath (In xs) path' (depth + 1) (half s the_plane ∷ c)
+    on_half : {c : List Plane} → OnPath (In o.planes.now) path₀ depth c → OnPath (In o.planes.now) path' (depth + 1) (half s the_plane ∷ c)
     on_half {c} on =
         let d : suc depth ≡ depth + 1 = omega arith in
-        subst (λ d. OnPath (In xs) path' d (half s the_plane ∷ c)) d
+        subst (λ d. OnPath (In o.planes.now) path' d (half s the_plane ∷ c)) d
         (on_push k.table (omega (arith, k.long, node_room)) (on_same on k.before) s the_plane plane_in k.is (subst (λ c. Witness the_plane c (meeting x)) (cell_one h.side.here.on on) h.witness))
 
-    pub side_in : {u v : List ℤ} {out : List ℕ} {m c : ℕ} → c ≡ get_or ns (3 * r + child s) 0 → length u ≡ length first → length v ≡ length second → Room out m → SideIn xs numbers a b t path' (depth + 1) u v out m c
-    side_in {u} {v} {out} {m} {c} e eu ev w = record {
-      grounds = record { lawful = g.lawful; few = g.few; path_room = omega (arith, k.long, k.long', g.path_room); first_room = omega (arith, eu, g.first_room); second_room = omega (arith, ev, g.second_room) };
-      here = record { operation = i.operation; op_is = i.op_is; turn = i.turn; turn_is = i.turn_is; tree = tree s; stands = subst (λ c. StandsIn xs numbers a b t.mark c (tree s)) (sym e) (stands s); second = i.second; second_stands = i.second_stands; cell = half s the_plane ∷ i.cell; on = on_half i.on };
+    pub side_in : {out : List ℕ} {m c : ℕ} → c ≡ get_or ns (3 * r + child s) 0 → Room out m → SideIn o t path' (depth + 1) out m c
+    side_in {out} {m} {c} e w = record {
+      grounds = record { lawful = g.lawful; few = g.few; path_room = omega (arith, k.long, k.long', g.path_room) };
+      here = record { operation = i.operation; op_is = i.op_is; turn = i.turn; turn_is = i.turn_is; tree = tree s; stands = subst (λ c. StandsIn o t.mark c (tree s)) (sym e) (stands s); second = i.second; second_stands = i.second_stands; cell = half s the_plane ∷ i.cell; on = on_half i.on };
       room = w;
     }
       where
-        g : Ground xs path₀ first second
+        g : Ground o.planes.now path₀
         g = h.side.grounds
 
-        i : Here xs numbers a b t path₀ depth r
+        i : Here o t path₀ depth r
         i = h.side.here
 
         tree : Bool → Tree
         tree true = node_row.front
         tree false = node_row.back
 
-        stands : (s : Bool) → StandsIn xs numbers a b t.mark (get_or ns (3 * r + child s) 0) (tree s)
+        stands : (s : Bool) → StandsIn o t.mark (get_or ns (3 * r + child s) 0) (tree s)
         stands true = node_row.front_stands
         stands false = node_row.back_stands
 
-    module _ {path'' : List ℤ} {out out' : List ℕ} {m c : ℕ} {z : Answer} (e : c ≡ get_or ns (3 * r + child s) 0) (d : Did xs numbers a b t path' path'' (depth + 1) out out' m c z) where
+    module _ {path'' : List ℤ} {out out' : List ℕ} {m c : ℕ} {z : Answer} (e : c ≡ get_or ns (3 * r + child s) 0) (d : Did o t path' path'' (depth + 1) out out' m c z) where
       -- the rows of the path before this one are still as they were
       pub side_kept : (i : ℕ) → i < depth * 9 → get_or path'' i (pos 0) ≡ get_or path₀ i (pos 0)
       side_kept i l = d.kept i (omega (arith, l)) ∙ pushed_before k.table (omega (arith, k.long, node_room)) i l ∙ k.before i l
 
-      module _ (o : Operation) (j : Option Mark) (w B S : Tree) (cell : List Plane) (eo : t.op ≡ operation_code o) (ej : t.mark ≡ turn_code j) (st : StandsIn xs numbers a b t.mark r w) (sb : Stands xs numbers b 64 t.root B) (on : OnPath (In xs) path₀ depth cell) where
-        abbrev q : RowAt xs numbers ns (offset t.mark) r w
-        q = as_row h.row st
+      module _ (q : Operation) (j : Option Mark) (w B S : Tree) (cell : List Plane) (eo : t.op ≡ operation_code q) (ej : t.mark ≡ turn_code j) (st : StandsIn o t.mark r w) (sb : Stands o.planes.now o.numbers.now o.b.now 64 t.root B) (on : OnPath (In o.planes.now) path₀ depth cell) where
+        abbrev here : RowAt o.planes.now o.numbers.now ns (offset t.mark) r w
+        here = as_row h.row st
 
         -- one side of the walk of a node of the row's plane
-        pub side_emits : (bs : BothSides join (Ends (operate o) B j) cell the_plane q.front q.back S) → Emitted (list xs) out out' m (result s bs) z
-        side_emits bs = d.emitted o j (tree s) B (result s bs) (half s the_plane ∷ cell) eo ej (subst (λ c. StandsIn xs numbers a b t.mark c (tree s)) (sym e) (stands s)) sb (on_half on) (walk s)
+        pub side_emits : (bs : BothSides join (Ends (operate q) B j) cell the_plane here.front here.back S) → Emitted (list o.planes.now) out out' m (result s bs) z
+        side_emits bs = d.emitted q j (tree s) B (result s bs) (half s the_plane ∷ cell) eo ej (subst (λ c. StandsIn o t.mark c (tree s)) (sym e) (stands s)) sb (on_half on) (walk s)
           where
             tree : Bool → Tree
-            tree true = q.front
-            tree false = q.back
+            tree true = here.front
+            tree false = here.back
 
-            stands : (s : Bool) → StandsIn xs numbers a b t.mark (get_or ns (3 * r + child s) 0) (tree s)
-            stands true = q.front_stands
-            stands false = q.back_stands
+            stands : (s : Bool) → StandsIn o t.mark (get_or ns (3 * r + child s) 0) (tree s)
+            stands true = here.front_stands
+            stands false = here.back_stands
 
-            walk : (s : Bool) → WalkedIn o B j (half s the_plane ∷ cell) (tree s) (result s bs)
+            walk : (s : Bool) → WalkedIn q B j (half s the_plane ∷ cell) (tree s) (result s bs)
             walk true = bs.front_walk
             walk false = bs.back_walk
 
   -- the two sides of the walk
-  module _ (o : Operation) (j : Option Mark) (w B S : Tree) (cell : List Plane) (st : StandsIn xs numbers a b t.mark r w) (on : OnPath (In xs) path₀ depth cell) where
-    sides : WalkedIn o B j cell w S → BothSides join (Ends (operate o) B j) cell the_plane (as_row h.row st).front (as_row h.row st).back S
+  module _ (q : Operation) (j : Option Mark) (w B S : Tree) (cell : List Plane) (st : StandsIn o t.mark r w) (on : OnPath (In o.planes.now) path₀ depth cell) where
+    sides : WalkedIn q B j cell w S → BothSides join (Ends (operate q) B j) cell the_plane (as_row h.row st).front (as_row h.row st).back S
     sides W =
-        let q = as_row h.row st in
-        walk_cut (subst (Cuts the_plane) (cell_one h.side.here.on on) cuts) (subst (λ u. WalkedIn o B j cell u S) (q.is ∙ ap (λ p. node p q.front q.back) (sym q.row.plane)) W)
+        let at = as_row h.row st in
+        walk_cut (subst (Cuts the_plane) (cell_one h.side.here.on on) cuts) (subst (λ u. WalkedIn q B j cell u S) (at.is ∙ ap (λ p. node p at.front at.back) (sym at.row.plane)) W)
 
   -- ---- the answers
 
-  module _ {path₁ path₂ : List ℤ} {out₁ : List ℕ} {c₁ : ℕ} {z₁ : Answer} (k₁ : Pushed true path₀ path₁) (e₁ : c₁ ≡ get_or ns (3 * r + 1) 0) (d₁ : Did xs numbers a b t path₁ path₂ (depth + 1) out₀ out₁ next c₁ z₁) where
-    pub node_front : {j : ℕ} → z₁ ≡ Refused j → Did xs numbers a b t path₀ path₂ depth out₀ out₁ next r z₁
-    node_front f = record {
+  module _ {path₁ path₂ : List ℤ} {out₁ : List ℕ} {c₁ : ℕ} {z₁ : Answer} (k₁ : Pushed true path₀ path₁) (e₁ : c₁ ≡ get_or ns (3 * r + 1) 0) (d₁ : Did o t path₁ path₂ (depth + 1) out₀ out₁ next c₁ z₁) where
+    pub node_front : {j : ℕ} → z₁ ≡ Err j → Did o t path₀ path₂ depth out₀ out₁ next r (Err j)
+    node_front {j = i} f = record {
       kept = side_kept true k₁ e₁ d₁;
-      placed = λ e m g. absurd (no_rows f g);
-      emitted = λ o j w B S cell eo ej st sb on W.
-          let bs = sides o j w B S cell st on W in
-          subst (λ S. Emitted (list xs) out₀ out₁ next S z₁) (sym bs.is) (front_lost the_plane bs.front bs.back f (side_emits true k₁ e₁ d₁ o j w B S cell eo ej st sb on bs));
+      placed = λ e m g. absurd (no_rows refl g);
+      emitted = λ q j w B S cell eo ej st sb on W.
+          let bs = sides q j w B S cell st on W in
+          subst (λ S. Emitted (list o.planes.now) out₀ out₁ next S (Err i)) (sym bs.is) (front_lost the_plane bs.front bs.back f (side_emits true k₁ e₁ d₁ q j w B S cell eo ej st sb on bs));
     }
 
-    module _ {f n₁ : ℕ} (g₁ : z₁ ≡ Done f n₁) (l₁ : length out₁ ≡ length out₀) {path₃ path₄ : List ℤ} {out₂ : List ℕ} {c₂ : ℕ} {z₂ : Answer} (k₂ : Pushed false path₂ path₃) (e₂ : c₂ ≡ get_or ns (3 * r + 2) 0) (d₂ : Did xs numbers a b t path₃ path₄ (depth + 1) out₁ out₂ n₁ c₂ z₂) where
-      pub node_back : {j : ℕ} → z₂ ≡ Refused j → Did xs numbers a b t path₀ path₄ depth out₀ out₂ next r z₂
-      node_back f = record {
+    module _ {f n₁ : ℕ} (g₁ : z₁ ≡ Ok (f, n₁)) (l₁ : length out₁ ≡ length out₀) {path₃ path₄ : List ℤ} {out₂ : List ℕ} {c₂ : ℕ} {z₂ : Answer} (k₂ : Pushed false path₂ path₃) (e₂ : c₂ ≡ get_or ns (3 * r + 2) 0) (d₂ : Did o t path₃ path₄ (depth + 1) out₁ out₂ n₁ c₂ z₂) where
+      pub node_back : {j : ℕ} → z₂ ≡ Err j → Did o t path₀ path₄ depth out₀ out₂ next r (Err j)
+      node_back {j = i} f = record {
         kept = side_kept false k₂ e₂ d₂;
-        placed = λ e m g. absurd (no_rows f g);
-        emitted = λ o j w B S cell eo ej st sb on W.
-            let bs = sides o j w B S cell st on W in
-            subst (λ S. Emitted (list xs) out₀ out₂ next S z₂) (sym bs.is) (back_lost the_plane bs.front bs.back f (got g₁ (side_emits true k₁ e₁ d₁ o j w B S cell eo ej st sb on bs)) (side_emits false k₂ e₂ d₂ o j w B S cell eo ej st sb on bs));
+        placed = λ e m g. absurd (no_rows refl g);
+        emitted = λ q j w B S cell eo ej st sb on W.
+            let bs = sides q j w B S cell st on W in
+            subst (λ S. Emitted (list o.planes.now) out₀ out₂ next S (Err i)) (sym bs.is) (back_lost the_plane bs.front bs.back f (got g₁ (side_emits true k₁ e₁ d₁ q j w B S cell eo ej st sb on bs)) (side_emits false k₂ e₂ d₂ q j w B S cell eo ej st sb on bs));
       }
 
-      module _ {g n₂ n : ℕ} (g₂ : z₂ ≡ Done g n₂) (l₂ : length out₂ ≡ length out₁) (en : n ≡ place_of) {out₃ : List ℕ} {z : Answer} (c : Closed out₂ out₃ n₂ n f g z) where
-        own_place : n ≡ place (list xs) the_plane
-        own_place = en ∙ own.place ∙ ap (place (list xs)) (sym own.plane)
+      module _ {g n₂ n : ℕ} (g₂ : z₂ ≡ Ok (g, n₂)) (l₂ : length out₂ ≡ length out₁) (en : n ≡ place_of) {out₃ : List ℕ} {z : Answer} (c : Closed out₂ out₃ n₂ n f g z) where
+        own_place : n ≡ place (list o.planes.now) the_plane
+        own_place = en ∙ own.place ∙ ap (place (list o.planes.now)) (sym own.plane)
 
-        pub node_closed : Did xs numbers a b t path₀ path₄ depth out₀ out₃ next r z
+        pub node_closed : Did o t path₀ path₄ depth out₀ out₃ next r z
         node_closed = record {
           kept = side_kept false k₂ e₂ d₂;
           placed = λ e m i. room_same (sym (l₂ ∙ l₁)) (closed_placed c (room_same l₂ (d₂.placed g n₂ g₂)) i);
-          emitted = λ o j w B S cell eo ej st sb on W.
-              let bs = sides o j w B S cell st on W in
-              subst (λ S. Emitted (list xs) out₀ out₃ next S z) (sym bs.is)
-              (closed the_plane (got g₁ (side_emits true k₁ e₁ d₁ o j w B S cell eo ej st sb on bs)) (got g₂ (side_emits false k₂ e₂ d₂ o j w B S cell eo ej st sb on bs)) (subst (λ n. Closed out₂ out₃ n₂ n f g z) own_place c));
+          emitted = λ q j w B S cell eo ej st sb on W.
+              let bs = sides q j w B S cell st on W in
+              subst (λ S. Emitted (list o.planes.now) out₀ out₃ next S z) (sym bs.is)
+              (closed the_plane (got g₁ (side_emits true k₁ e₁ d₁ q j w B S cell eo ej st sb on bs)) (got g₂ (side_emits false k₂ e₂ d₂ q j w B S cell eo ej st sb on bs)) (subst (λ n. Closed out₂ out₃ n₂ n f g z) own_place c));
         }
 
 -- ---- a side
 
-module _ {xs : List ℤ} {numbers a b : List ℕ} {t : Turn} {path : List ℤ} {depth : ℕ} {first second : List ℤ} {out : List ℕ} {next c : ℕ} (h : SideIn xs numbers a b t path depth first second out next c) where
-  -- the tables of a section are as long as they were
-  ground_in : {u v : List ℤ} → length u ≡ length first → length v ≡ length second → Ground xs path u v
-  ground_in eu ev = record { lawful = h.grounds.lawful; few = h.grounds.few; path_room = h.grounds.path_room; first_room = omega (arith, eu, h.grounds.first_room); second_room = omega (arith, ev, h.grounds.second_room) }
-
+module _ {o : Operands} {t : Turn} {path : List ℤ} {depth : ℕ} {out : List ℕ} {next c : ℕ} (h : SideIn o t path depth out next c) where
   -- at a row
   module _ (low : c < 65534) where
-    pub step_in : StepIn xs numbers a b t.mark path depth first second c
-    step_in = record { grounds = h.grounds; cell = h.here.cell; on = h.here.on; tree = h.here.tree; stands = h.here.stands; row = low }
-
-    module _ {y : Reached.Reached} (d : StepTold xs numbers a b t.mark path depth c y) where
-      pub cut_in : {x : Meeting} → y ≡ Reached.TheVariants.Cut x → {u v : List ℤ} → length u ≡ length first → length v ≡ length second → NodeIn xs numbers a b t path depth u v out next c x
-      cut_in e eu ev =
+    module _ {y : Reached.Reached} (d : StepTold o t.mark path depth c y) where
+      pub cut_in : {x : Meeting} → y ≡ Reached.TheVariants.Cut x → NodeIn o t path depth out next c x
+      cut_in e =
           let i = h.here in
-          record { side = record { grounds = ground_in eu ev; here = i; room = h.room }; row = low; witness = subst (Leads xs numbers a b t.mark c i.cell i.tree) e (d.leads i.cell i.tree i.on i.stands) }
+          record { side = record { grounds = h.grounds; here = i; room = h.room }; row = low; witness = subst (Leads o t.mark c i.cell i.tree) e (d.leads i.cell i.tree i.on i.stands) }
 
       module _ {e : ℕ} (f : y ≡ Reached.TheVariants.Code e) where
-        leads : (cell : List Plane) (w : Tree) → OnPath (In xs) path depth cell → StandsIn xs numbers a b t.mark c w → ToCode xs numbers a b t.mark cell w e
-        leads cell w on st = subst (Leads xs numbers a b t.mark c cell w) f (d.leads cell w on st)
+        leads : (cell : List Plane) (w : Tree) → OnPath (In o.planes.now) path depth cell → StandsIn o t.mark c w → ToCode o t.mark cell w e
+        leads cell w on st = subst (Leads o t.mark c cell w) f (d.leads cell w on st)
 
-        pub code_in : {u v : List ℤ} → length u ≡ length first → length v ≡ length second → SideIn xs numbers a b t path depth u v out next e
-        code_in eu ev =
+        pub code_in : SideIn o t path depth out next e
+        code_in =
             let i = h.here in
-            let q = leads i.cell i.tree i.on i.stands in
+            let to = leads i.cell i.tree i.on i.stands in
             record {
-              grounds = ground_in eu ev;
-              here = record { operation = i.operation; op_is = i.op_is; turn = i.turn; turn_is = i.turn_is; tree = q.tree; stands = q.stands; second = i.second; second_stands = i.second_stands; cell = i.cell; on = i.on };
+              grounds = h.grounds;
+              here = record { operation = i.operation; op_is = i.op_is; turn = i.turn; turn_is = i.turn_is; tree = to.tree; stands = to.stands; second = i.second; second_stands = i.second_stands; cell = i.cell; on = i.on };
               room = h.room;
             }
 
-        pub side_code : {path' : List ℤ} {out' : List ℕ} {z : Answer} → Did xs numbers a b t path path' depth out out' next e z → Did xs numbers a b t path path' depth out out' next c z
+        pub side_code : {path' : List ℤ} {out' : List ℕ} {z : Answer} → Did o t path path' depth out out' next e z → Did o t path path' depth out out' next c z
         side_code k = record {
           kept = k.kept;
           placed = k.placed;
-          emitted = λ o j w B S cell eo ej st sb on W. let q = leads cell w on st in k.emitted o j q.tree B S cell eo ej q.stands sb on (q.walk o B j S W);
+          emitted = λ q j w B S cell eo ej st sb on W. let to = leads cell w on st in k.emitted q j to.tree B S cell eo ej to.stands sb on (to.walk q B j S W);
         }
 
   -- at a mark
@@ -273,48 +270,48 @@ module _ {xs : List ℤ} {numbers a b : List ℕ} {t : Turn} {path : List ℤ} {
         record { operation = i.operation; turn = i.turn; met = q.met; op_is = i.op_is; turn_is = i.turn_is; met_is = q.code_is }
 
     -- the walk of a leaf is the end of its mark
-    record AtMark (o : Operation) (j : Option Mark) (B S : Tree) (cell : List Plane) : Type 0 where
+    record AtMark (q : Operation) (j : Option Mark) (B S : Tree) (cell : List Plane) : Type 0 where
       met : Mark
       met_is : c ≡ number (mark met)
-      ends : Ends (operate o) B j cell met S
+      ends : Ends (operate q) B j cell met S
 
-    at_mark : (o : Operation) (j : Option Mark) (w B S : Tree) (cell : List Plane) → StandsIn xs numbers a b t.mark c w → WalkedIn o B j cell w S → AtMark o j B S cell
-    at_mark o j w B S cell st W = let q = as_mark high st in record { met = q.met; met_is = q.code_is; ends = by (subst (λ u. WalkedIn o B j cell u S) q.is W) }
+    at_mark : (q : Operation) (j : Option Mark) (w B S : Tree) (cell : List Plane) → StandsIn o t.mark c w → WalkedIn q B j cell w S → AtMark q j B S cell
+    at_mark q j w B S cell st W = let at = as_mark high st in record { met = at.met; met_is = at.code_is; ends = by (subst (λ u. WalkedIn q B j cell u S) at.is W) }
       where
-        by : {x : Mark} → WalkedIn o B j cell (leaf x) S → Ends (operate o) B j cell x S
+        by : {x : Mark} → WalkedIn q B j cell (leaf x) S → Ends (operate q) B j cell x S
         by (end l) = l
 
-    pub side_mark : {k : Ended} {v : ℕ} → k ≡ Ended.Mark v → EndIs t.op t.mark c k → Did xs numbers a b t path path depth out out next c (Done v next)
+    pub side_mark : {k : Maybe ℕ} {v : ℕ} → k ≡ Some v → EndIs t.op t.mark c k → Did o t path path depth out out next c (Ok (v, next))
     side_mark {k} {v} f g = record {
       kept = λ i l. refl;
-      placed = λ v' n i. let j : n ≡ next = cc in subst (Room out) (sym j) h.room;
-      emitted = λ o j w B S cell eo ej st sb on W.
-          let q = at_mark o j w B S cell st W in
-          by o B cell q.ends (subst (EndsAs o j q.met) f (g o j q.met eo ej q.met_is));
+      placed = λ v' n i. subst (Room out) (done_same refl i).1 h.room;
+      emitted = λ q j w B S cell eo ej st sb on W.
+          let at = at_mark q j w B S cell st W in
+          by q B cell at.ends (subst (EndsAs q j at.met) f (g q j at.met eo ej at.met_is));
     }
       where
-        by : (o : Operation) (B : Tree) (cell : List Plane) {j : Option Mark} {x : Mark} {S : Tree} {v : ℕ} → Ends (operate o) B j cell x S → EndsAs o j x (Ended.Mark v) → Emitted (list xs) out out next S (Done v next)
-        by o B cell ends (in_b a x) = subst (λ S. Emitted (list xs) out out next S (Done (number (mark (operate o a x))) next)) (sym ends) (mark_done (list xs) out next (operate o a x) h.room)
-        by o B cell ends (alone x y f) = subst (λ S. Emitted (list xs) out out next S (Done (number (mark y)) next)) (sym (second_alone f ends)) (mark_done (list xs) out next y h.room)
+        by : (q : Operation) (B : Tree) (cell : List Plane) {j : Option Mark} {x : Mark} {S : Tree} {v : ℕ} → Ends (operate q) B j cell x S → EndsAs q j x (Some v) → Emitted (list o.planes.now) out out next S (Ok (v, next))
+        by q B cell ends (in_b a x) = subst (λ S. Emitted (list o.planes.now) out out next S (Ok (number (mark (operate q a x)), next))) (sym ends) (mark_done (list o.planes.now) out next (operate q a x) h.room)
+        by q B cell ends (alone x y f) = subst (λ S. Emitted (list o.planes.now) out out next S (Ok (number (mark y), next))) (sym (second_alone f ends)) (mark_done (list o.planes.now) out next y h.room)
 
     -- B is walked from its root
-    module _ {k : Ended} (f : k ≡ Ended.WalkB) (g : EndIs t.op t.mark c k) where
+    module _ {k : Maybe ℕ} (f : k ≡ None) (g : EndIs t.op t.mark c k) where
       abbrev below : Turn
       below = record { op = t.op; root = t.root; mark = c }
 
-      asked : (o : Operation) (j : Option Mark) (x : Mark) → t.op ≡ operation_code o → t.mark ≡ turn_code j → c ≡ number (mark x) → j ≡ none
-      asked o j x eo ej ex = by (subst (EndsAs o j x) f (g o j x eo ej ex))
+      asked : (q : Operation) (j : Option Mark) (x : Mark) → t.op ≡ operation_code q → t.mark ≡ turn_code j → c ≡ number (mark x) → j ≡ none
+      asked q j x eo ej ex = by (subst (EndsAs q j x) f (g q j x eo ej ex))
         where
-          by : {j : Option Mark} → EndsAs o j x Ended.WalkB → j ≡ none
+          by : {j : Option Mark} → EndsAs q j x None → j ≡ none
           by (asks x) = refl
 
       pub in_a : t.mark ≡ 0
       in_a = let i = h.here in i.turn_is ∙ ap turn_code (asked i.operation i.turn end_in.met i.op_is i.turn_is end_in.met_is)
 
-      below_stands : {B : Tree} → Stands xs numbers b 64 t.root B → StandsIn xs numbers a b c t.root B
-      below_stands {B} s = let n : c ≡ 0 → ⊥ = λ z. omega (arith, z, high) in subst (λ o. Stands xs numbers (rows_of c a b) o t.root B) (offset_b c n) (subst (λ l. Stands xs numbers l 64 t.root B) (in-b-rows c a b n) s)
+      below_stands : {B : Tree} → Stands o.planes.now o.numbers.now o.b.now 64 t.root B → StandsIn o c t.root B
+      below_stands {B} s = let n : c ≡ 0 → ⊥ = λ z. omega (arith, z, high) in subst (λ k. Stands o.planes.now o.numbers.now (walked o c) k t.root B) (offset_b c n) (subst (λ l. Stands o.planes.now o.numbers.now l 64 t.root B) (in-b-rows c o.a.now o.b.now n) s)
 
-      pub below_in : SideIn xs numbers a b below path depth first second out next t.root
+      pub below_in : SideIn o below path depth out next t.root
       below_in =
           let i = h.here in
           record {
@@ -326,15 +323,15 @@ module _ {xs : List ℤ} {numbers a b : List ℕ} {t : Turn} {path : List ℤ} {
       pub root_low : t.root < 65534 → t.root < 1000
       root_low = code_small h.here.second_stands
 
-      pub side_b : {path' : List ℤ} {out' : List ℕ} {z : Answer} → Did xs numbers a b below path path' depth out out' next t.root z → Did xs numbers a b t path path' depth out out' next c z
+      pub side_b : {path' : List ℤ} {out' : List ℕ} {z : Answer} → Did o below path path' depth out out' next t.root z → Did o t path path' depth out out' next c z
       side_b {path'} {out'} {z} k = record {
         kept = k.kept;
         placed = k.placed;
-        emitted = λ o j w B S cell eo ej st sb on W.
-            let q = at_mark o j w B S cell st W in
-            k.emitted o (some q.met) B B S cell eo q.met_is (below_stands sb) sb on (b_walk o j B S cell q.met (asked o j q.met eo ej q.met_is) q.ends);
+        emitted = λ q j w B S cell eo ej st sb on W.
+            let at = at_mark q j w B S cell st W in
+            k.emitted q (some at.met) B B S cell eo at.met_is (below_stands sb) sb on (b_walk q j B S cell at.met (asked q j at.met eo ej at.met_is) at.ends);
       }
         where
-          b_walk : (o : Operation) (j : Option Mark) (B S : Tree) (cell : List Plane) (x : Mark) → j ≡ none → Ends (operate o) B j cell x S → WalkedIn o B (some x) cell B S
-          b_walk o none B S cell x e l = l
-          b_walk o (some y) B S cell x e l = differ (cc)
+          b_walk : (q : Operation) (j : Option Mark) (B S : Tree) (cell : List Plane) (x : Mark) → j ≡ none → Ends (operate q) B j cell x S → WalkedIn q B (some x) cell B S
+          b_walk q none B S cell x e l = l
+          b_walk q (some y) B S cell x e l = differ (cc)

@@ -1,6 +1,7 @@
 -- The rows of a tree put out one after the other: those of the front, those of the back, and the node's own.
 --     room?, room_less              whether there is room, and for fewer rows too
 --     rows_flat_length              three numbers a row
+--     no_rows, done_same            a refusal is no answer with rows, and such an answer is one
 --     Got, got, lost                what an answer says of the tree whose rows were put out
 --     row_put, closed               a node, of the rows of its two sides: its row is put out, or it is closed
 --     front_lost, back_lost         a side whose rows have no room
@@ -20,9 +21,8 @@ use Rattle.scope.specs.Answers.{flat_nodes}
 use Rattle.theory.specs.Text.Filled.{nodes_count}
 use Rattle.theory.specs.Text.Rows.{post_length}
 use Rattle.theory.specs.Text.Stacks.{last_row, entries_node}
-use Rattle.walks.specs.declared.Walked.{Walked}
-use Rattle.walks.specs.declared.Walked.TheVariants.{Done, Refused}
-use Rattle.walks.specs.Putting.{Room, Put, Closed, rows_flat, Emitted}
+use Rattle.std.specs.Prelude.{Ok, Err}
+use Rattle.walks.specs.Putting.{Walked, Room, Put, Closed, rows_flat, Emitted}
 
 -- ---- room
 
@@ -64,28 +64,39 @@ rows_flat_node J n p f b = ap flat_nodes (entries_node J n p f b) ∙ flat_appen
 
 -- ---- what an answer says
 
+-- an answer that is a refusal gives no rows, and one that is none gives one code and one number of rows
+pub no_rows : {z : Walked} {j e m : ℕ} → z ≡ Err j → z ≡ Ok (e, m) → ⊥
+no_rows {z} {j} {e} {m} f g = let d : ◌≡◌ {A = Walked} (Err j) (Ok (e, m)) = sym f ∙ g in differ (cc)
+
+pub done_same : {z : Walked} {c m d n : ℕ} → z ≡ Ok (c, m) → z ≡ Ok (d, n) → (c ≡ d) × (m ≡ n)
+done_same {z} {c} {m} {d} {n} f g = let e : ◌≡◌ {A = Walked} (Ok (c, m)) (Ok (d, n)) = sym f ∙ g in (ap (λ r. (of r).0) e, ap (λ r. (of r).1) e)
+  where
+    of : Walked → ℕ × ℕ
+    of (Ok p) = p
+    of (Err k) = (0, 0)
+
 pub record Got (J : List Plane) (o₀ o₁ : List ℕ) (n : ℕ) (t : Tree) (c m : ℕ) : Type 0 where
   pub within : Room o₀ (n + rows t)
   pub code_is : c ≡ number (code n t)
   pub next_is : m ≡ n + rows t
   pub table : o₁ ≡ sets o₀ (3 * n) (rows_flat J n t)
 
-pub got : {J : List Plane} {o₀ o₁ : List ℕ} {n : ℕ} {t : Tree} {r : Walked} {c m : ℕ} → r ≡ Done c m → Emitted J o₀ o₁ n t r → Got J o₀ o₁ n t c m
+pub got : {J : List Plane} {o₀ o₁ : List ℕ} {n : ℕ} {t : Tree} {r : Walked} {c m : ℕ} → r ≡ Ok (c, m) → Emitted J o₀ o₁ n t r → Got J o₀ o₁ n t c m
 got {J} {o₀} {o₁} {n} {t} {r} {c} {m} e h = go (room? o₀ (n + rows t))
   where
     go : Dec (Room o₀ (n + rows t)) → Got J o₀ o₁ n t c m
-    go (yes p) = let d : Done c m ≡ Done (number (code n t)) (n + rows t) = sym e ∙ (h.fits p).0 in record { within = p; code_is = cc; next_is = cc; table = (h.fits p).1 }
-    go (no q) = let d : Done c m ≡ Refused 8 = sym e ∙ h.over q in differ (cc)
+    go (yes p) = let d = done_same e (h.fits p).0 in record { within = p; code_is = d.0; next_is = d.1; table = (h.fits p).1 }
+    go (no q) = absurd (no_rows (h.over q) e)
 
-pub lost : {J : List Plane} {o₀ o₁ : List ℕ} {n : ℕ} {t : Tree} {r : Walked} {k : ℕ} → r ≡ Refused k → Emitted J o₀ o₁ n t r → ¬ Room o₀ (n + rows t)
-lost {n = n} {t = t} {k = k} e h p = let d : Refused k ≡ Done (number (code n t)) (n + rows t) = sym e ∙ (h.fits p).0 in differ (cc)
+pub lost : {J : List Plane} {o₀ o₁ : List ℕ} {n : ℕ} {t : Tree} {r : Walked} {k : ℕ} → r ≡ Err k → Emitted J o₀ o₁ n t r → ¬ Room o₀ (n + rows t)
+lost e h p = no_rows e (h.fits p).0
 
 got_length : {J : List Plane} {o₀ o₁ : List ℕ} {n : ℕ} {t : Tree} {c m : ℕ} → Got J o₀ o₁ n t c m → length o₁ ≡ length o₀
 got_length {J} {o₀} {n = n} {t = t} g = ap length g.table ∙ length-sets o₀ (3 * n) (rows_flat J n t)
 
-pub mark_done : (J : List Plane) (o : List ℕ) (n : ℕ) (m : Mark) → Room o n → Emitted J o o n (leaf m) (Done (number (mark m)) n)
+pub mark_done : (J : List Plane) (o : List ℕ) (n : ℕ) (m : Mark) → Room o n → Emitted J o o n (leaf m) (Ok (number (mark m), n))
 unfolding code rows post flat_nodes
-mark_done J o n m h = let e : n ≡ n + 0 = omega arith in record { fits = λ w. (ap (Done (number (mark m))) e, refl); over = λ w. absurd (w (room_less h (omega arith))) }
+mark_done J o n m h = let e : n ≡ n + 0 = omega arith in record { fits = λ w. (ap (λ k. Ok (number (mark m), k)) e, refl); over = λ w. absurd (w (room_less h (omega arith))) }
 
 -- ---- a node
 
@@ -114,11 +125,11 @@ module _ {J : List Plane} {o₀ o₁ o₂ o₃ : List ℕ} {n fc bc n₁ n₂ : 
           ∙ ap (λ i. sets (sets o₀ (3 * n) (rows_flat J n x ++ rows_flat J n₁ y)) i own) {x = 3 * n₂} {y = 3 * n + length (rows_flat J n x ++ rows_flat J n₁ y)} (omega (arith, g.next_is, h.next_is, rows_flat_length J n x, rows_flat_length J n₁ y, length-append (rows_flat J n x) (rows_flat J n₁ y)))
           ∙ sets_append (rows_flat J n x ++ rows_flat J n₁ y) o₀ (3 * n) own
 
-      fits : Room o₀ (n + suc (rows x + rows y)) → (r ≡ Done (n + rows x + rows y) (n + suc (rows x + rows y))) × (o₃ ≡ sets o₀ (3 * n) (rows_flat J n (node p x y)))
+      fits : Room o₀ (n + suc (rows x + rows y)) → (r ≡ Ok (n + rows x + rows y, n + suc (rows x + rows y))) × (o₃ ≡ sets o₀ (3 * n) (rows_flat J n (node p x y)))
       fits w =
           let q = e.fits (room_same long (room_less w (omega (arith, end)))) in
           let s : suc n₂ ≡ n + suc (rows x + rows y) = omega (arith, end) in (
-            q.0 ∙ (λ i. Done (end i) (s i)),
+            q.0 ∙ (λ i. Ok (end i, s i)),
             q.1 ∙ both ∙ (λ i. sets o₀ (3 * n) ((rows_flat J n x ++ rows_flat J (g.next_is i) y) ++ (place J p ∷ g.code_is i ∷ (h.code_is ∙ ap (λ k. number (code k y)) g.next_is) i ∷ []))) ∙ ap (sets o₀ (3 * n)) (sym (rows_flat_node J n p x y)),
           )
 
@@ -128,7 +139,7 @@ module _ {J : List Plane} {o₀ o₁ o₂ o₃ : List ℕ} {n fc bc n₁ n₂ : 
   joined m g h e =
       let q = e.same (g.code_is ∙ sym h.code_is) (high m g.code_is) in
       let s : n₂ ≡ n + 0 = omega (arith, g.next_is, h.next_is) in
-      record { fits = λ w. (q.0 ∙ (λ i. Done (g.code_is i) (s i)), q.1 ∙ h.table ∙ g.table); over = λ w. absurd (w g.within) }
+      record { fits = λ w. (q.0 ∙ (λ i. Ok (g.code_is i, s i)), q.1 ∙ h.table ∙ g.table); over = λ w. absurd (w g.within) }
     where
       high : (m : Mark) → fc ≡ number (mark m) → 65534 ≤ fc
       high IN e = omega (arith, e)
@@ -155,11 +166,11 @@ join_rows p (leaf OUT) (leaf OUT) = omega arith
 join_rows p (leaf m) (node q f b) = omega arith
 join_rows p (node q f b) y = omega arith
 
-module _ {J : List Plane} {o₀ o₁ : List ℕ} {n k : ℕ} {r : Walked} (p : Plane) (x y : Tree) (e : r ≡ Refused k) where
-  pub front_lost : Emitted J o₀ o₁ n x r → Emitted J o₀ o₁ n (join p x y) r
-  front_lost h = let l = lost e h in record { fits = λ w. absurd (l (room_less w (omega (arith, join_rows p x y)))); over = λ w. h.over l }
+module _ {J : List Plane} {o₀ o₁ : List ℕ} {n k : ℕ} {r : Walked} (p : Plane) (x y : Tree) (e : r ≡ Err k) where
+  pub front_lost : Emitted J o₀ o₁ n x r → Emitted J o₀ o₁ n (join p x y) (Err k)
+  front_lost h = let l = lost e h in record { fits = λ w. absurd (l (room_less w (omega (arith, join_rows p x y)))); over = λ w. sym e ∙ h.over l }
 
-  pub back_lost : {o₂ : List ℕ} {c n₁ : ℕ} → Got J o₀ o₁ n x c n₁ → Emitted J o₁ o₂ n₁ y r → Emitted J o₀ o₂ n (join p x y) r
+  pub back_lost : {o₂ : List ℕ} {c n₁ : ℕ} → Got J o₀ o₁ n x c n₁ → Emitted J o₁ o₂ n₁ y r → Emitted J o₀ o₂ n (join p x y) (Err k)
   back_lost g h =
       let l = lost e h in
-      record { fits = λ w. absurd (l (room_same (got_length g) (room_less w (omega (arith, g.next_is, join_rows p x y))))); over = λ w. h.over l }
+      record { fits = λ w. absurd (l (room_same (got_length g) (room_less w (omega (arith, g.next_is, join_rows p x y))))); over = λ w. sym e ∙ h.over l }

@@ -1,17 +1,16 @@
 -- The table of the operations is right at each of its twelve entries, and what becomes of a mark.
---     index_in, operated_is      the entry of an operation and two marks
---     end_in, end_either                 what `operated` is given
+--     operated_is                        the entry of an operation and two marks
+--     end_in                             what `operated` is given in B
 --     ended_b, ended_alone, ended_asks   in B; in A, where its mark decides alone, and where not
 use mathlib.Core.Path.{◌≡◌, refl, sym, ap, subst, ◌∙◌}
 use mathlib.Core.List.{List, [], ◌∷◌}
 use mathlib.Core.Option.{Option, none, some}
-use Prim.Native.Nat.{ℕ, ◌+◌, ◌-◌, ◌*◌, ◌≤◌, ◌<◌}
+use Prim.Native.Nat.{ℕ, ◌+◌, ◌-◌, ◌*◌, ◌≤◌}
 use native.Mathlib.Omega.{arith}
 use lib.ListN.{get_or}
 use Rattle.scope.specs.Solids.{Mark, IN, OUT, mark, number}
-use Rattle.scope.specs.Cells.{Operation, union, intersection, difference, operate}
-use Rattle.scope.specs.Text.{operation_code}
-use Rattle.walks.specs.declared.Ended.{Ended}
+use Rattle.scope.specs.Cells.{union, intersection, difference, operate}
+use Rattle.std.specs.Prelude.{Some, None}
 use Rattle.walks.specs.Marks.{turn_code, MarkIn, MarkIs, EndIn, EndsAs, in_b, alone, asks, EndIs}
 
 -- ---- the table
@@ -22,21 +21,9 @@ marks = 65535 ∷ 65535 ∷ 65535 ∷ 65534 ∷ 65535 ∷ 65534 ∷ 65534 ∷ 65
 abbrev pub index : ℕ → ℕ → ℕ → ℕ
 index op a b = 4 * op + 2 * (65535 - a) + (65535 - b)
 
-op_in : (o : Operation) {op : ℕ} → op ≡ operation_code o → (1 ≤ op) × (op ≤ 3)
-op_in union e = (omega (arith, e), omega (arith, e))
-op_in intersection e = (omega (arith, e), omega (arith, e))
-op_in difference e = (omega (arith, e), omega (arith, e))
-
 pub mark_in : (m : Mark) {a : ℕ} → a ≡ number (mark m) → (65534 ≤ a) × (a ≤ 65535)
 mark_in IN e = (omega (arith, e), omega (arith, e))
 mark_in OUT e = (omega (arith, e), omega (arith, e))
-
-pub index_in : {op a b : ℕ} → MarkIn op a b → (4 ≤ index op a b) × (index op a b - 4 < 12)
-index_in {op} {a} {b} h =
-    let o = op_in h.operation h.op_is in
-    let x = mark_in h.first h.first_is in
-    let y = mark_in h.second h.second_is in
-    (omega (arith, o.0), omega (arith, o.1, x.0, y.0))
 
 pub operated_is : {op a b : ℕ} → MarkIs op a b (get_or marks (index op a b - 4) 0)
 unfolding operate
@@ -73,22 +60,18 @@ module _ {op m c : ℕ} where
       by none e = absurd (n e)
       by (some a) e = record { operation = h.operation; first = a; second = h.met; op_is = h.op_is; first_is = e; second_is = h.met_is }
 
-  -- in A, with either mark of B
-  pub end_either : (y : Mark) → EndIn op m c → MarkIn op c (number (mark y))
-  end_either y h = record { operation = h.operation; first = h.met; second = y; op_is = h.op_is; first_is = h.met_is; second_is = refl }
-
-  pub ended_b : {r : ℕ} → (m ≡ 0 → ⊥) → MarkIs op m c r → EndIs op m c (Ended.Mark r)
+  pub ended_b : {r : ℕ} → (m ≡ 0 → ⊥) → MarkIs op m c r → EndIs op m c (Some r)
   ended_b n h o none x e f g = absurd (n f)
-  ended_b n h o (some a) x e f g = subst (λ r. EndsAs o (some a) x (Ended.Mark r)) (sym (h o a x e f g)) (in_b a x)
+  ended_b n h o (some a) x e f g = subst (λ r. EndsAs o (some a) x (Some r)) (sym (h o a x e f g)) (in_b a x)
 
-  pub ended_alone : {r s : ℕ} → m ≡ 0 → MarkIs op c 65535 r → MarkIs op c 65534 s → r ≡ s → EndIs op m c (Ended.Mark r)
+  pub ended_alone : {r s : ℕ} → m ≡ 0 → MarkIs op c 65535 r → MarkIs op c 65534 s → r ≡ s → EndIs op m c (Some r)
   ended_alone z h k d o (some a) x e f g = absurd (some_mark a z f)
-  ended_alone {r} {s} z h k d o none x e f g = subst (λ r. EndsAs o none x (Ended.Mark r)) (sym (h o x IN e g refl)) (alone x (operate o x IN) both)
+  ended_alone {r} {s} z h k d o none x e f g = subst (λ r. EndsAs o none x (Some r)) (sym (h o x IN e g refl)) (alone x (operate o x IN) both)
     where
       both : (b : Mark) → operate o x b ≡ operate o x IN
       both IN = refl
       both OUT = same_mark (operate o x OUT) (operate o x IN) (sym (k o x OUT e g refl) ∙ sym d ∙ h o x IN e g refl)
 
-  pub ended_asks : m ≡ 0 → EndIs op m c Ended.WalkB
+  pub ended_asks : m ≡ 0 → EndIs op m c None
   ended_asks z o (some a) x e f g = absurd (some_mark a z f)
   ended_asks z o none x e f g = asks x

@@ -3,7 +3,7 @@
 --     walk_cut, walk_fore, walk_aft the walk of a node whose plane cuts the cell, or misses it
 --     second_alone                  B where A's mark decides alone
 --     on_inside                     a cell on a path has a point
---     plane_of_in, field_in         the plane of a row, and its codes
+--     plane_of_in                   the plane of a row
 --     step_cut, step_fore, step_aft what comes of the class of a row's plane
 use mathlib.Core.Path.{◌≡◌, refl, sym, ap, subst, ◌∙◌}
 use mathlib.Core.Bool.{Bool, true, false}
@@ -28,9 +28,10 @@ use Rattle.tables.specs.Rows.{plane_at}
 use Rattle.cells.specs.declared.Classified.{Classified}
 use Rattle.cells.specs.Paths.{OnPath, at_box, below, witness_at, Witness, Classes, is_cut, is_front, is_behind, ClassifiedIn, ClassifyIn}
 use Rattle.cells.proofs.Paths.{on_map, on_kept}
+use Rattle.walks.specs.declared.rows.Operands.{Operands}
 use Rattle.walks.specs.declared.Reached as Reached
-use Rattle.walks.specs.Standing.{rows_of, offset, list, plane_number, FieldIn, RowIs, Stands, at_mark, at_row}
-use Rattle.walks.specs.Walks.{In, WalkedIn, StandsIn, PlaneOfIn, StepIn, ToCode, StepTold}
+use Rattle.walks.specs.Standing.{offset, list, walked, number_at, PlaneOfIn, RowIs, Stands, at_mark, at_row}
+use Rattle.walks.specs.Walks.{In, WalkedIn, StandsIn, StepIn, ToCode, StepTold}
 use Rattle.walks.proofs.Marks.{mark_in}
 
 -- ---- what stands at a code
@@ -117,52 +118,47 @@ on_few h = kept_few (on_kept (λ p q. q.member) h)
 pub plane_of_in : {xs : List ℤ} {numbers ns : List ℕ} {o r : ℕ} {p : Plane} → RowIs xs numbers ns o r p → PlaneOfIn xs numbers ns o r
 plane_of_in h = record { number_in = record { inside = h.inside; numbered = h.numbered }; there = h.there }
 
-pub field_in : {xs : List ℤ} {numbers ns : List ℕ} {o r : ℕ} {p : Plane} → RowIs xs numbers ns o r p → (k : ℕ) → k < 3 → FieldIn ns r k
-field_in h k l = record { inside = h.inside; one_of_three = l }
-
-module _ {xs : List ℤ} {numbers a b : List ℕ} {m : ℕ} {path : List ℤ} {depth : ℕ} {first second : List ℤ} {r : ℕ} (h : StepIn xs numbers a b m path depth first second r) where
-  pub here_row : RowAt xs numbers (rows_of m a b) (offset m) r h.tree
+module _ {o : Operands} {m : ℕ} {path : List ℤ} {depth : ℕ} {r : ℕ} (h : StepIn o m path depth r) where
+  pub here_row : RowAt o.planes.now o.numbers.now (walked o m) (offset m) r h.tree
   here_row = as_row h.row h.stands
 
   -- the plane that was read is the row's
-  module _ {p : struct.Plane} (e : plane p ≡ plane_at xs (plane_number numbers (offset m) (rows_of m a b) r)) where
-    pub classify_in : ClassifyIn (plane p) path depth first second
+  module _ {p : struct.Plane} (e : plane p ≡ plane_at o.planes.now (number_at o m r)) where
+    pub classify_in : ClassifyIn (plane p) path depth
     classify_in = record {
       lawful = subst Lawful (sym (e ∙ here_row.row.plane)) (h.grounds.lawful here_row.plane here_row.row.member);
       few = omega (arith, on_few h.on, h.grounds.few);
       room = omega (arith, on_few h.on, h.grounds.few, h.grounds.path_room);
       cell = h.cell;
       on = on_map (λ p q. q.lawful) h.on;
-      first_room = h.grounds.first_room;
-      second_room = h.grounds.second_room;
     }
 
     -- what the class says of the row's plane
-    class : {k l : Classified} → k ≡ l → ClassifiedIn (plane p) path depth k → (cell : List Plane) → OnPath (In xs) path depth cell → Classes (plane_at xs (plane_number numbers (offset m) (rows_of m a b) r)) cell l
-    class {k} d f cell on = subst (Classes (plane_at xs (plane_number numbers (offset m) (rows_of m a b) r)) cell) d (subst (λ q. Classes q cell k) e (f cell (on_map (λ p q. q.lawful) on)))
+    class : {k l : Classified} → k ≡ l → ClassifiedIn (plane p) path depth k → (cell : List Plane) → OnPath (In o.planes.now) path depth cell → Classes (plane_at o.planes.now (number_at o m r)) cell l
+    class {k} d f cell on = subst (Classes (plane_at o.planes.now (number_at o m r)) cell) d (subst (λ q. Classes q cell k) e (f cell (on_map (λ p q. q.lawful) on)))
 
-    pub step_cut : {k : Classified} (x : Meeting) → k ≡ Classified.Cut x → ClassifiedIn (plane p) path depth k → StepTold xs numbers a b m path depth r (Reached.TheVariants.Cut x)
+    pub step_cut : {k : Classified} (x : Meeting) → k ≡ Classified.Cut x → ClassifiedIn (plane p) path depth k → StepTold o m path depth r (Reached.TheVariants.Cut x)
     step_cut x d f = record { falls = λ e i. differ (cc); leads = λ cell t on s. by (class d f cell on) }
       where
         by : {q : Plane} {cell : List Plane} → Classes q cell (Classified.Cut x) → Witness q cell (meeting x)
         by (is_cut w) = w
 
     -- the cell lies on one side of the plane, and the walk goes on at the code of that side
-    step_on : {g : ℕ} → (g < 65534 → g < r) → ((cell : List Plane) (t : Tree) → OnPath (In xs) path depth cell → StandsIn xs numbers a b m r t → ToCode xs numbers a b m cell t g) → StepTold xs numbers a b m path depth r (Reached.TheVariants.Code g)
+    step_on : {g : ℕ} → (g < 65534 → g < r) → ((cell : List Plane) (t : Tree) → OnPath (In o.planes.now) path depth cell → StandsIn o m r t → ToCode o m cell t g) → StepTold o m path depth r (Reached.TheVariants.Code g)
     step_on {g} l f = record { falls = λ e i h. let j : e ≡ g = cc in omega (arith, j, l (subst (λ n. n < 65534) j h)); leads = f }
 
-    pub step_fore : {k : Classified} {g : ℕ} → k ≡ Classified.Front → ClassifiedIn (plane p) path depth k → g ≡ get_or (rows_of m a b) (3 * r + 1) 0 → StepTold xs numbers a b m path depth r (Reached.TheVariants.Code g)
+    pub step_fore : {k : Classified} {g : ℕ} → k ≡ Classified.Front → ClassifiedIn (plane p) path depth k → g ≡ get_or (walked o m) (3 * r + 1) 0 → StepTold o m path depth r (Reached.TheVariants.Code g)
     step_fore {k} {g} d f i = step_on (subst (λ g. g < 65534 → g < r) (sym i) here_row.row.front_less) λ cell t on s.
-        let q = as_row h.row s in
-        record { tree = q.front; stands = subst (λ g. StandsIn xs numbers a b m g q.front) (sym i) q.front_stands; walk = λ o B k S w. walk_fore (on_inside on).0 (on_inside on).1 (by (subst (λ u. Classes u cell Classified.Front) q.row.plane (class d f cell on))) (subst (λ t. WalkedIn o B k cell t S) q.is w) }
+        let at = as_row h.row s in
+        record { tree = at.front; stands = subst (λ g. StandsIn o m g at.front) (sym i) at.front_stands; walk = λ q B k S w. walk_fore (on_inside on).0 (on_inside on).1 (by (subst (λ u. Classes u cell Classified.Front) at.row.plane (class d f cell on))) (subst (λ t. WalkedIn q B k cell t S) at.is w) }
       where
         by : {q : Plane} {cell : List Plane} → Classes q cell Classified.Front → AllFront q cell
         by (is_front z) = z
 
-    pub step_aft : {k : Classified} {g : ℕ} → k ≡ Classified.Behind → ClassifiedIn (plane p) path depth k → g ≡ get_or (rows_of m a b) (3 * r + 2) 0 → StepTold xs numbers a b m path depth r (Reached.TheVariants.Code g)
+    pub step_aft : {k : Classified} {g : ℕ} → k ≡ Classified.Behind → ClassifiedIn (plane p) path depth k → g ≡ get_or (walked o m) (3 * r + 2) 0 → StepTold o m path depth r (Reached.TheVariants.Code g)
     step_aft {k} {g} d f i = step_on (subst (λ g. g < 65534 → g < r) (sym i) here_row.row.back_less) λ cell t on s.
-        let q = as_row h.row s in
-        record { tree = q.back; stands = subst (λ g. StandsIn xs numbers a b m g q.back) (sym i) q.back_stands; walk = λ o B k S w. walk_aft (on_inside on).0 (on_inside on).1 (by (subst (λ u. Classes u cell Classified.Behind) q.row.plane (class d f cell on))) (subst (λ t. WalkedIn o B k cell t S) q.is w) }
+        let at = as_row h.row s in
+        record { tree = at.back; stands = subst (λ g. StandsIn o m g at.back) (sym i) at.back_stands; walk = λ q B k S w. walk_aft (on_inside on).0 (on_inside on).1 (by (subst (λ u. Classes u cell Classified.Behind) at.row.plane (class d f cell on))) (subst (λ t. WalkedIn q B k cell t S) at.is w) }
       where
         by : {q : Plane} {cell : List Plane} → Classes q cell Classified.Behind → AllBack q cell
         by (is_behind z) = z

@@ -2,12 +2,11 @@
 --     turn_code        where a walk is: in A, or in B below a leaf of A with a mark
 --     MarkIn, MarkIs   the operation of two marks
 --     EndIn, EndIs     what becomes of a mark that a walk meets
-use Rattle.std.specs.Prelude.{◌≡◌, ℕ}
+use Rattle.std.specs.Prelude.{◌≡◌, ℕ, Option as Answer, Some, None}
 use Rattle.std.proofs.Math.Option.{Option, none, some}
 use Rattle.scope.specs.Solids.{Mark, mark, number}
 use Rattle.scope.specs.Cells.{Operation, operate}
 use Rattle.scope.specs.Text.{operation_code}
-use Rattle.walks.specs.declared.Ended.{Ended}
 
 abbrev pub turn_code : Option Mark → ℕ
 turn_code none = 0
@@ -35,10 +34,10 @@ pub record EndIn (op m c : ℕ) : Type 0 where
   pub met_is : c ≡ number (mark met)
 
 -- the operation's mark below a leaf of A; the mark that A's leaf gives alone; or B is walked
-pub data EndsAs (o : Operation) : Option Mark → Mark → Ended → Type 0 where
-  in_b : (a x : Mark) → EndsAs o (some a) x (Ended.Mark (number (mark (operate o a x))))
-  alone : (x y : Mark) → ((b : Mark) → operate o x b ≡ y) → EndsAs o none x (Ended.Mark (number (mark y)))
-  asks : (x : Mark) → EndsAs o none x Ended.WalkB
+pub data EndsAs (o : Operation) : Option Mark → Mark → Answer ℕ → Type 0 where
+  in_b : (a x : Mark) → EndsAs o (some a) x (Some (number (mark (operate o a x))))
+  alone : (x y : Mark) → ((b : Mark) → operate o x b ≡ y) → EndsAs o none x (Some (number (mark y)))
+  asks : (x : Mark) → EndsAs o none x None
 
-abbrev pub EndIs : ℕ → ℕ → ℕ → Ended → Type 0
+abbrev pub EndIs : ℕ → ℕ → ℕ → Answer ℕ → Type 0
 EndIs op m c r = (o : Operation) (k : Option Mark) (x : Mark) → op ≡ operation_code o → m ≡ turn_code k → c ≡ number (mark x) → EndsAs o k x r

@@ -2,13 +2,15 @@
 --     rows_of, offset          the rows that are walked, A's where the mark is 0, else B's; and where the numbers of their planes begin
 --     list                     the joined planes of a table
 --     plane_number             the number of a row's plane in the joined list
---     FieldIn, NumberIn        what the functions on a row are given
+--     walked, number_at        the same of operands
+--     NumberIn, PlaneOfIn      what the functions on a row's plane are given
 --     RowIs, Stands            a row, its plane and its codes; the tree that stands at a code
 use Rattle.std.specs.Prelude.{◌≡◌, List, ℕ, zero, suc, ◌+◌, ◌*◌, ◌/◌, ◌<◌, ℤ, length, get_or}
 use Rattle.whole.specs.Members.{◌∈◌}
 use Rattle.scope.specs.Planes.{Plane}
 use Rattle.scope.specs.Solids.{Mark, Tree, leaf, node, mark, number, place}
 use Rattle.tables.specs.Rows.{plane_at, planes_to}
+use Rattle.walks.specs.declared.rows.Operands.{Operands}
 
 abbrev pub rows_of : ℕ → List ℕ → List ℕ → List ℕ
 rows_of zero a b = a
@@ -24,13 +26,20 @@ list xs = planes_to xs (length xs / 4)
 unfoldable pub plane_number : List ℕ → ℕ → List ℕ → ℕ → ℕ
 plane_number numbers o ns r = get_or numbers (o + get_or ns (3 * r) 0) 0
 
-pub record FieldIn (ns : List ℕ) (r k : ℕ) : Type 0 where
-  pub inside : 3 * r + 2 < length ns
-  pub one_of_three : k < 3
+-- the rows that are walked, and the number of the plane of one of them
+abbrev pub walked : Operands → ℕ → List ℕ
+walked o m = rows_of m o.a.now o.b.now
+
+abbrev pub number_at : Operands → ℕ → ℕ → ℕ
+number_at o m r = plane_number o.numbers.now (offset m) (walked o m) r
 
 pub record NumberIn (ns numbers : List ℕ) (o r : ℕ) : Type 0 where
   pub inside : 3 * r + 2 < length ns
   pub numbered : o + get_or ns (3 * r) 0 < length numbers
+
+pub record PlaneOfIn (xs : List ℤ) (numbers ns : List ℕ) (o r : ℕ) : Type 0 where
+  pub number_in : NumberIn ns numbers o r
+  pub there : 4 * plane_number numbers o ns r + 3 < length xs
 
 -- row r has the plane p, which is in the joined list, and its codes are marks or earlier rows
 pub record RowIs (xs : List ℤ) (numbers ns : List ℕ) (o r : ℕ) (p : Plane) : Type 0 where

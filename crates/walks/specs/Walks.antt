@@ -1,12 +1,12 @@
 -- What the walks are given, and what they do.
 --     In                   a plane of the joined list
 --     Ends                 what comes of a leaf: in A a walk of B, in B the operation's mark
---     Ground               the tables that a walk reads, and its room
+--     Ground               the joined planes, and room for a path
 --     Here                 where a walk is: in which operand, in which cell, at which tree
 --     SideIn, NodeIn       what a side's walk and a node's walk are given
---     PlaneOfIn, StepIn, ToCode, Leads, StepTold        one row: its plane cuts the cell, or the walk goes on at a child
+--     StepIn, ToCode, Leads, StepTold        one row: its plane cuts the cell, or the walk goes on at a child
 --     Did                  what a walk does: the rows of the walked tree, put out
-use Rattle.std.specs.Prelude.{◌≡◌, List, ℕ, ◌+◌, ◌*◌, ◌≤◌, ◌<◌, ℤ, pos, length, get_or}
+use Rattle.std.specs.Prelude.{◌≡◌, List, ℕ, ◌*◌, ◌≤◌, ◌<◌, ℤ, pos, length, get_or, Ok}
 use Rattle.std.proofs.Math.Option.{Option, none, some}
 use Rattle.whole.specs.Members.{◌∈◌}
 use Rattle.scope.specs.Planes.{Plane, Lawful}
@@ -18,10 +18,10 @@ use Rattle.planes.specs.declared.Meeting.{Meeting}
 use Rattle.tables.specs.Rows.{plane_at}
 use Rattle.cells.specs.Paths.{OnPath, Witness}
 use Rattle.walks.specs.declared.Turn.{Turn}
+use Rattle.walks.specs.declared.rows.Operands.{Operands}
 use Rattle.walks.specs.declared.Reached as Reached
-use Rattle.walks.specs.declared.Walked as answer
-use Rattle.walks.specs.Standing.{rows_of, offset, list, plane_number, NumberIn, Stands}
-use Rattle.walks.specs.Putting.{Room, Emitted}
+use Rattle.walks.specs.Standing.{offset, list, walked, number_at, Stands}
+use Rattle.walks.specs.Putting.{Walked as Answer, Room, Emitted}
 use Rattle.walks.specs.Marks.{turn_code}
 
 pub record In (xs : List ℤ) (p : Plane) : Type 0 where
@@ -38,76 +38,70 @@ WalkedIn o B k c t s = Walked join (Ends (operate o) B k) c t s
 
 -- ---- what is given
 
--- the joined planes are lawful and at most 128; there is room for a path of 128 rows and for sections
-pub record Ground (xs : List ℤ) (path first second : List ℤ) : Type 0 where
+-- the joined planes are lawful and at most 128; there is room for a path of 128 rows
+pub record Ground (xs : List ℤ) (path : List ℤ) : Type 0 where
   pub lawful : (p : Plane) → p ∈ list xs → Lawful p
   pub few : length (list xs) ≤ 128
   pub path_room : 1152 ≤ length path
-  pub first_room : 675 ≤ length first
-  pub second_room : 675 ≤ length second
 
 -- the tree that a code stands for in the operand that is walked
-abbrev pub StandsIn : List ℤ → List ℕ → List ℕ → List ℕ → ℕ → ℕ → Tree → Type 0
-StandsIn xs numbers a b m c t = Stands xs numbers (rows_of m a b) (offset m) c t
+abbrev pub StandsIn : Operands → ℕ → ℕ → Tree → Type 0
+StandsIn o m c t = Stands o.planes.now o.numbers.now (walked o m) (offset m) c t
 
 -- an operation, an operand, a cell, a tree; and B, from its root
-pub record Here (xs : List ℤ) (numbers a b : List ℕ) (t : Turn) (path : List ℤ) (depth c : ℕ) : Type 0 where
+pub record Here (o : Operands) (t : Turn) (path : List ℤ) (depth c : ℕ) : Type 0 where
   pub operation : Operation
   pub op_is : t.op ≡ operation_code operation
   pub turn : Option Mark
   pub turn_is : t.mark ≡ turn_code turn
   pub tree : Tree
-  pub stands : StandsIn xs numbers a b t.mark c tree
+  pub stands : StandsIn o t.mark c tree
   pub second : Tree
-  pub second_stands : Stands xs numbers b 64 t.root second
+  pub second_stands : Stands o.planes.now o.numbers.now o.b.now 64 t.root second
   pub cell : List Plane
-  pub on : OnPath (In xs) path depth cell
+  pub on : OnPath (In o.planes.now) path depth cell
 
-pub record SideIn (xs : List ℤ) (numbers a b : List ℕ) (t : Turn) (path : List ℤ) (depth : ℕ) (first second : List ℤ) (out : List ℕ) (next c : ℕ) : Type 0 where
-  pub grounds : Ground xs path first second
-  pub here : Here xs numbers a b t path depth c
+pub record SideIn (o : Operands) (t : Turn) (path : List ℤ) (depth : ℕ) (out : List ℕ) (next c : ℕ) : Type 0 where
+  pub grounds : Ground o.planes.now path
+  pub here : Here o t path depth c
   pub room : Room out next
 
 -- the row's plane cuts the cell at a witness
-pub record NodeIn (xs : List ℤ) (numbers a b : List ℕ) (t : Turn) (path : List ℤ) (depth : ℕ) (first second : List ℤ) (out : List ℕ) (next r : ℕ) (x : Meeting) : Type 0 where
-  pub side : SideIn xs numbers a b t path depth first second out next r
+pub record NodeIn (o : Operands) (t : Turn) (path : List ℤ) (depth : ℕ) (out : List ℕ) (next r : ℕ) (x : Meeting) : Type 0 where
+  pub side : SideIn o t path depth out next r
   pub row : r < 65534
-  pub witness : Witness (plane_at xs (plane_number numbers (offset t.mark) (rows_of t.mark a b) r)) side.here.cell (meeting x)
+  pub witness : Witness (plane_at o.planes.now (number_at o t.mark r)) side.here.cell (meeting x)
 
 -- ---- one row
 
-pub record PlaneOfIn (xs : List ℤ) (numbers ns : List ℕ) (o r : ℕ) : Type 0 where
-  pub number_in : NumberIn ns numbers o r
-  pub there : 4 * plane_number numbers o ns r + 3 < length xs
-
 -- a row, in the cell of a path
-pub record StepIn (xs : List ℤ) (numbers a b : List ℕ) (m : ℕ) (path : List ℤ) (depth : ℕ) (first second : List ℤ) (r : ℕ) : Type 0 where
-  pub grounds : Ground xs path first second
+pub record StepIn (o : Operands) (m : ℕ) (path : List ℤ) (depth : ℕ) (r : ℕ) : Type 0 where
+  pub grounds : Ground o.planes.now path
   pub cell : List Plane
-  pub on : OnPath (In xs) path depth cell
+  pub on : OnPath (In o.planes.now) path depth cell
   pub tree : Tree
-  pub stands : StandsIn xs numbers a b m r tree
+  pub stands : StandsIn o m r tree
   pub row : r < 65534
 
 -- a code at which the walk of the tree goes on: whatever the tree t becomes in the cell, the code's tree becomes
-pub record ToCode (xs : List ℤ) (numbers a b : List ℕ) (m : ℕ) (cell : List Plane) (t : Tree) (e : ℕ) : Type 0 where
+pub record ToCode (o : Operands) (m : ℕ) (cell : List Plane) (t : Tree) (e : ℕ) : Type 0 where
   pub tree : Tree
-  pub stands : StandsIn xs numbers a b m e tree
-  pub walk : (o : Operation) (B : Tree) (k : Option Mark) (s : Tree) → WalkedIn o B k cell t s → WalkedIn o B k cell tree s
+  pub stands : StandsIn o m e tree
+  pub walk : (q : Operation) (B : Tree) (k : Option Mark) (s : Tree) → WalkedIn q B k cell t s → WalkedIn q B k cell tree s
 
 -- C.2: the row's plane cuts the cell; or it misses it, and the walk goes on at a child
-abbrev pub Leads : List ℤ → List ℕ → List ℕ → List ℕ → ℕ → ℕ → List Plane → Tree → Reached.Reached → Type 0
-Leads xs numbers a b m r cell t (Reached.TheVariants.Cut x) = Witness (plane_at xs (plane_number numbers (offset m) (rows_of m a b) r)) cell (meeting x)
-Leads xs numbers a b m r cell t (Reached.TheVariants.Code e) = ToCode xs numbers a b m cell t e
+abbrev pub Leads : Operands → ℕ → ℕ → List Plane → Tree → Reached.Reached → Type 0
+Leads o m r cell t (Reached.TheVariants.Cut x) = Witness (plane_at o.planes.now (number_at o m r)) cell (meeting x)
+Leads o m r cell t (Reached.TheVariants.Code e) = ToCode o m cell t e
 
 -- a child is a mark or an earlier row
-pub record StepTold (xs : List ℤ) (numbers a b : List ℕ) (m : ℕ) (path : List ℤ) (depth r : ℕ) (z : Reached.Reached) : Type 0 where
+pub record StepTold (o : Operands) (m : ℕ) (path : List ℤ) (depth r : ℕ) (z : Reached.Reached) : Type 0 where
   pub falls : (e : ℕ) → z ≡ Reached.TheVariants.Code e → e < 65534 → e < r
-  pub leads : (cell : List Plane) (t : Tree) → OnPath (In xs) path depth cell → StandsIn xs numbers a b m r t → Leads xs numbers a b m r cell t z
+  pub leads : (cell : List Plane) (t : Tree) → OnPath (In o.planes.now) path depth cell → StandsIn o m r t → Leads o m r cell t z
 
 -- ---- what is done
 
-pub record Did (xs : List ℤ) (numbers a b : List ℕ) (t : Turn) (path path' : List ℤ) (depth : ℕ) (out out' : List ℕ) (next c : ℕ) (r : answer.Walked) : Type 0 where
+pub record Did (o : Operands) (t : Turn) (path path' : List ℤ) (depth : ℕ) (out out' : List ℕ) (next c : ℕ) (r : Answer) : Type 0 where
   pub kept : (i : ℕ) → i < depth * 9 → get_or path' i (pos 0) ≡ get_or path i (pos 0)
-  pub placed : (e m : ℕ) → r ≡ answer.TheVariants.Done e m → Room out m
-  pub emitted : (o : Operation) (k : Option Mark) (w B s : Tree) (cell : List Plane) → t.op ≡ operation_code o → t.mark ≡ turn_code k → StandsIn xs numbers a b t.mark c w → Stands xs numbers b 64 t.root B → OnPath (In xs) path depth cell → WalkedIn o B k cell w s → Emitted (list xs) out out' next s r
+  pub placed : (e m : ℕ) → r ≡ Ok (e, m) → Room out m
+  pub emitted : (q : Operation) (k : Option Mark) (w B s : Tree) (cell : List Plane) → t.op ≡ operation_code q → t.mark ≡ turn_code k → StandsIn o t.mark c w → Stands o.planes.now o.numbers.now o.b.now 64 t.root B → OnPath (In o.planes.now) path depth cell → WalkedIn q B k cell w s → Emitted (list o.planes.now) out out' next s r

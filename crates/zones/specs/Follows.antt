@@ -2,10 +2,12 @@
 --     text_told_unique     no second answer, and no second table, meets them
 --     Prints, program_text   with room for the longest text of a solid, what is shown is what document 01's program prints
 --     Normals, same_bytes_same_space   demand 3: two normal forms are the same bytes exactly when the solids are the same space
-use Rattle.std.specs.Prelude.{◌≡◌, refl, Bool, true, false, cond, List, ◌≢◌, ◌↔◌, ℕ, ◌-◌, ◌≤◌, T, leb, ℤ, length, take, replicate}
+use Rattle.std.specs.Prelude.{◌≡◌, refl, Bool, true, false, cond, List, ◌≢◌, ◌↔◌, ℕ, ◌-◌, ◌≤◌, T, leb, ℤ, length, take, replicate, Result, Ok, Err}
 use Rattle.std.proofs.Common.{sym, ap, subst, ◌∙◌, arith, le-leb}
 use Rattle.std.proofs.Math.Seq.{take-append_seam}
 use Rattle.whole.specs.Tests.{differ}
+use Rattle.refusals.specs.declared.Refusal.{Refusal}
+use Rattle.refusals.specs.Numbers.{numbered, numbered_unique}
 use Rattle.scope.specs.Limits.{stated}
 use Rattle.scope.specs.Planes.{Point}
 use Rattle.scope.specs.Solids.{Tree, planes, Tables, tables_of, answer as answers}
@@ -19,7 +21,6 @@ use Rattle.theory.specs.Theorems.{same_text_same_space, Apart, forms_apart}
 use Rattle.theory.specs.Text.MergeInput.{merge_read}
 use Rattle.theory.specs.Text.Sizes.{text_length}
 use Rattle.theory.specs.Text.Trees.{LawfulTables}
-use Rattle.solids.specs.declared.Written as Written
 use Rattle.solids.specs.Writing.{wrote, itself}
 use Rattle.outputs.specs.Outputs.{in_room}
 use Rattle.texts.specs.Answers.{Job, merging, forming, MergedText, unread, merged_text, FormedText, formed_text, AnswerTo}
@@ -47,10 +48,10 @@ one_answer : (job : Job) (t : List ℕ) (room : ℕ) (q r : Answer (List ℕ)) �
 one_answer merging t room = one_merge
 one_answer forming t room = one_form
 
-pub text_told_unique : {job : Job} {t out out' out'' : List ℕ} {w w' w'' : List ℤ} {i j : Written.Written} → TextTold job t out out' w w' i → TextTold job t out out'' w w'' j → (i ≡ j) × (out' ≡ out'') × (w' ≡ w'')
+pub text_told_unique : {job : Job} {t out out' out'' : List ℕ} {w w' w'' : List ℤ} {i j : Result ℕ Refusal} → TextTold job t out out' w w' (numbered i) → TextTold job t out out'' w w'' (numbered j) → (i ≡ j) × (out' ≡ out'') × (w' ≡ w'')
 text_told_unique {job} {t} {out} h k =
     let e : h.answer ≡ k.answer = with_unique (one_answer job t (length out)) h.exact k.exact in
-    (h.told ∙ ap wrote e ∙ sym k.told, h.text ∙ ap (left 0 (length out) itself) e ∙ sym k.text, h.work ∙ sym k.work)
+    (numbered_unique (h.told ∙ ap wrote e ∙ sym k.told), h.text ∙ ap (left 0 (length out) itself) e ∙ sym k.text, h.work ∙ sym k.work)
 
 -- ---- what the programs print
 
@@ -76,9 +77,9 @@ answer_text merging t room x h (merged_text {o = o} {a = a} {b = b} {r = r} e m)
 answer_text forming t room x h (formed_text {r = r} m) = subst (FormText t) (sym (room_for room h r (λ c f. form_given_lawful (text_sound operand_rooms t) m f))) (scope.formed_text m)
 
 -- what a program shows of an answer and of the text lent for it: so many bytes, or one 0F line
-abbrev pub shown : Written.Written → List ℕ → List ℕ
-shown (Written.TheVariants.Text n) out' = take n out'
-shown (Written.TheVariants.Refused k) out' = refusal_line k
+abbrev pub shown : Result ℕ ℕ → List ℕ → List ℕ
+shown (Ok n) out' = take n out'
+shown (Err k) out' = refusal_line k
 
 shows : (out : List ℕ) (x : Answer (List ℕ)) → shown (wrote x) (left 0 (length out) itself x) ≡ bytes_of x
 shows out (given x) = take-append_seam x (replicate (length out - length x) 0)
@@ -88,7 +89,7 @@ enough_for : {work : ℕ} {P : Answer (List ℕ) → Type 0} {x : Answer (List �
 enough_for {work} e (short_work n) = absurd (n (subst T (sym (le-leb stated work e)) tt))
 enough_for e (enough_work u p) = p
 
-pub program_text : {job : Job} {t out out' : List ℕ} {w w' : List ℤ} {r : Written.Written} → TextTold job t out out' w w' r → stated ≤ length w → 14488 ≤ length out → Prints job t (shown r out')
+pub program_text : {job : Job} {t out out' : List ℕ} {w w' : List ℤ} {r : Result ℕ ℕ} → TextTold job t out out' w w' r → stated ≤ length w → 14488 ≤ length out → Prints job t (shown r out')
 program_text {job} {t} {out} h e room = subst (Prints job t) (sym ((λ i. shown (h.told i) (h.text i)) ∙ shows out h.answer)) (answer_text job t (length out) h.answer room (enough_for e h.exact))
 
 -- ---- demand 3
@@ -109,11 +110,11 @@ record Shown (t out out' : List ℕ) (n : ℕ) : Type 0 where
   pub form : FormGiven (judge operand_rooms t) is
   pub bytes : take n out' ≡ text is
 
-was_shown : {t out out' : List ℕ} {w w' : List ℤ} {n : ℕ} → TextTold forming t out out' w w' (Written.TheVariants.Text n) → Shown t out out' n
+was_shown : {t out out' : List ℕ} {w w' : List ℤ} {n : ℕ} → TextTold forming t out out' w w' (Ok n) → Shown t out out' n
 was_shown {t} {out} {out'} {w} {n = n} h = with_work h.exact refl
   where
     none : {k : ℕ} → h.answer ≡ refused k → Shown t out out' n
-    none {k} e = let d : Written.TheVariants.Text n ≡ Written.TheVariants.Refused k = h.told ∙ ap wrote e in differ (cc)
+    none {k} e = let d : ◌≡◌ {A = Result ℕ ℕ} (Ok n) (Err k) = h.told ∙ ap wrote e in differ (cc)
 
     by : (r : Answer Tables) → FormBy program_rooms (judge operand_rooms t) r → h.answer ≡ in_room (length out) r → Shown t out out' n
     by (refused k) m e = none e
@@ -129,7 +130,7 @@ was_shown {t} {out} {out'} {w} {n = n} h = with_work h.exact refl
     with_work (short_work k) e = none e
     with_work (enough_work k (formed_text {r = r} m)) e = by r m e
 
-pub same_bytes_same_space : {t u out out' out₁ out₁' : List ℕ} {w w' w₁ w₁' : List ℤ} {n m : ℕ} → TextTold forming t out out' w w' (Written.TheVariants.Text n) → TextTold forming u out₁ out₁' w₁ w₁' (Written.TheVariants.Text m) → Normals t u (take n out') (take m out₁')
+pub same_bytes_same_space : {t u out out' out₁ out₁' : List ℕ} {w w' w₁ w₁' : List ℤ} {n m : ℕ} → TextTold forming t out out' w w' (Ok n) → TextTold forming u out₁ out₁' w₁ w₁' (Ok m) → Normals t u (take n out') (take m out₁')
 unfolding text_of
 same_bytes_same_space {t} {u} h k =
     let a = was_shown h in

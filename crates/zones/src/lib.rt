@@ -3,6 +3,7 @@
 // run.
 #![tactic(auto)]
 
+ghost use Rattle.refusals.specs.Numbers.{numbered};
 ghost use Rattle.texts.specs.Answers.{merging, forming};
 ghost use Rattle.zones.specs.Promises.{TextTold};
 
@@ -10,19 +11,19 @@ pub use forms::normal;
 pub use merging::merge;
 use outputs::refuse;
 pub use points::point;
+use refusals::Refusal;
 pub use sections::section;
-use solids::Written;
 pub use solids::{read, write};
 
 // The merge of a text: operation, A, B. The text of the merged solid, or the number of the first refusal and a text of zeros: 8 for a short
 // work table, 3 for a text over 32,768 bytes, then line by line, then 8 and 9 for the merged solid in 128 plane rows and 1,000 node rows,
 // and 8 for a text that has too little room.
-pub fn merge_text(text: &[u8], out: &mut [u8], work: &mut [i64]) -> Written
-    ensures { TextTold merging text.now out.old out.new work.old work.new result }
+pub fn merge_text(text: &[u8], out: &mut [u8], work: &mut [i64]) -> Result<usize, Refusal>
+    ensures { TextTold merging text.now out.old out.new work.old work.new (numbered result) }
 {
     zeros::clear(work);
     if work.len() < zeros::WORK {
-        return refuse(8, out); // before an order is read
+        return refuse(Refusal::NoRoom, out); // before an order is read
     }
     let r = texts::merge_lent(text, out, work);
     zeros::clear(work);
@@ -32,12 +33,12 @@ pub fn merge_text(text: &[u8], out: &mut [u8], work: &mut [i64]) -> Written
 // The normal form of a text: a solid. The text of its form, or the number of the first refusal and a text of zeros: 8 for a short work
 // table, 3 for a text over 32,768 bytes, then line by line, then 8 for a form of over 1,000 rows, and 8 for a text that has too little
 // room.
-pub fn normal_text(text: &[u8], out: &mut [u8], work: &mut [i64]) -> Written
-    ensures { TextTold forming text.now out.old out.new work.old work.new result }
+pub fn normal_text(text: &[u8], out: &mut [u8], work: &mut [i64]) -> Result<usize, Refusal>
+    ensures { TextTold forming text.now out.old out.new work.old work.new (numbered result) }
 {
     zeros::clear(work);
     if work.len() < zeros::WORK {
-        return refuse(8, out); // before a solid is read
+        return refuse(Refusal::NoRoom, out); // before a solid is read
     }
     let r = texts::normal_lent(text, out, work);
     zeros::clear(work);

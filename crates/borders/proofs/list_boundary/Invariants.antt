@@ -4,7 +4,7 @@ use Rattle.borders.proofs.list_boundary.Given as goal
 
 abbrev pub invariant-loop-i : goal.invariant-loop-i
 invariant-loop-i l =
-    Listing l.planes l.numbers l.a l.b l.pair l.initial.path l.initial.first l.initial.second l.initial.boundary l.path l.first l.second l.boundary l.k l.i
+    Listing l.o l.pair l.initial.path l.initial.boundary l.path l.boundary l.k l.i
 
 abbrev pub decreases-loop-i : goal.decreases-loop-i
 decreases-loop-i l =

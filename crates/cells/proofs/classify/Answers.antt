@@ -1,9 +1,10 @@
 -- `cells::classify` meets its contract (proofs/Paths). Assumes nothing.
-use Rattle.cells.proofs.Paths.{beside_asked, cut_asked, missed_asked, classified_front, classified_behind, classified_cut, classified_missed}
+use Rattle.planes.specs.Bounds.{in_range_in}
+use Rattle.cells.proofs.Paths.{path_asked, cut_asked, missed_asked, classified_cut, classified_missed}
 use Rattle.cells.proofs.classify.Goals as goal
 
 pub parallel-requires : goal.parallel-requires
-parallel-requires c = beside_asked c.requires
+parallel-requires c = (in_range_in (cut_asked c.requires).support, path_asked c.requires)
 
 pub cut-requires : goal.cut-requires
 cut-requires c = cut_asked c.requires
@@ -11,14 +12,8 @@ cut-requires c = cut_asked c.requires
 pub missed-requires : goal.missed-requires
 missed-requires c = missed_asked c.requires.lawful c.requires.on c.requires.room
 
-pub returns-in-Front : goal.returns-in-Front
-returns-in-Front c = classified_front c.parallel.ensures c.in-Front.is
+pub returns-in-Some-cut : goal.returns-in-Some-cut
+returns-in-Some-cut c = classified_cut c.args.path.now c.args.depth c.requires.lawful c.in-Some-cut.ensures
 
-pub returns-in-Behind : goal.returns-in-Behind
-returns-in-Behind c = classified_behind c.parallel.ensures c.in-Behind.is
-
-pub returns-in-At : goal.returns-in-At
-returns-in-At c = classified_cut c.args.path.now c.args.depth c.requires.lawful c.cut.ensures c.in-At.m c.in-At.is
-
-pub returns-in-Nothing : goal.returns-in-Nothing
-returns-in-Nothing c = classified_missed c.args.path.now c.args.depth c.requires.lawful c.cut.ensures c.in-Nothing.is c.missed.ensures
+pub returns-in-None : goal.returns-in-None
+returns-in-None c = classified_missed c.args.path.now c.args.depth c.requires.lawful c.in-None.ensures c.missed.ensures

@@ -1,9 +1,7 @@
 use mathlib.Core.Path.{◌≡◌}
-use Prim.Native.Nat.{ℕ, ◌*◌, ◌≤◌}
+use Prim.Native.Nat.{◌*◌, ◌≤◌}
 use Rattle.cells.proofs.parallel.Given as goal
 
-abbrev pub invariant-loop-end : goal.invariant-loop-end
-invariant-loop-end l = (left : ℕ) × (l.end ≡ left * 9) × (left ≤ l.depth)
-
-abbrev pub decreases-loop-end : goal.decreases-loop-end
-decreases-loop-end l = l.end
+abbrev pub invariant-loop-at : goal.invariant-loop-at
+invariant-loop-at l =
+    (goal.iterator-loop-at).can_next l.at-iterator × (goal.iterator-loop-at).is_finite l.at-iterator × (l.at-iterator.rows.now ≡ l.path.rows.now) × (l.at-iterator.end ≤ l.path.depth * 9)

@@ -2,12 +2,11 @@
 use mathlib.Core.Path.{◌∙◌}
 use native.Mathlib.Omega.{arith}
 use Rattle.lists.specs.Lists.{no_room, over_64}
-use Rattle.lists.proofs.Used.{marks_small}
-use Rattle.lists.proofs.Listings.{zero_at, number_held, count_held, joined_long, listed_count, listed_planes, listed_rows}
+use Rattle.lists.proofs.Listings.{none_at, number_held, count_held, listed_count, listed_planes, listed_rows}
 use Rattle.lists.proofs.list_used.Goals as goal
 
 pub mark_used-requires : goal.mark_used-requires
-mark_used-requires c = let h = c.requires.held in record { rows = h.room; numbers = λ i l. omega (arith, number_held h i l, h.few); zeros = zero_at 128 }
+mark_used-requires c = let h = c.requires.held in record { rows = h.room; numbers = λ i l. omega (arith, number_held h i l, h.few); none = none_at 128 }
 
 pub rank-count-requires : goal.rank-count-requires
 rank-count-requires c =
@@ -17,7 +16,6 @@ rank-count-requires c =
       marks = omega (arith, count_held h, h.few, u.auto.used);
       room = omega (arith, count_held h, h.few);
       few = omega (arith, count_held h, h.few);
-      small = marks_small c.args.nodes.now u.new.used c.args.m u.ensures;
     }
 
 pub returns-then-planes-count : goal.returns-then-planes-count
@@ -32,7 +30,6 @@ pub put_used-requires : goal.put_used-requires
 put_used-requires c =
     let h = c.requires.held in
     record {
-      rows = joined_long h;
       marks = omega (arith, count_held h, h.few, c.mark_used.auto.used);
       places = omega (arith, count_held h, h.few, c.rank-count.auto.ranks);
       each = c.rank-count.ensures.each;

@@ -1,26 +1,7 @@
 -- `merging::merge` meets its contract: what is left in the tables (Rattle.results, proofs/Calls). Assumes nothing.
-use mathlib.Core.Path.{ap, ◌∙◌}
-use lib.IntN.{pos}
-use lib.ListN.{replicate}
-use Rattle.zeros.proofs.Fill.{cleared}
-use Rattle.theory.specs.Text.Lent.{lent}
-use Rattle.results.specs.Results.{merge_of}
-use Rattle.results.proofs.Calls.{told_refused, told_solid}
+use borrow.Author.Rules.{rules}
+use Rattle.results.proofs.Calls.{told_given}
 use Rattle.merging.proofs.merge.Goals as goal
 
-pub merge_judged-m-requires : goal.merge_judged-m-requires
-merge_judged-m-requires c = record { planes_zero = cleared (pos 0) c.args.planes.now c.wipe.new.planes c.wipe.ensures.planes; nodes_zero = cleared 0 c.args.nodes.now c.wipe.new.nodes c.wipe.ensures.nodes }
-
-pub returns-in_default : goal.returns-in_default
-returns-in_default c =
-    let a = c.args in
-    let j = c.merge_judged-m in
-    told_refused {q = merge_of a.op (lent a.ap.now a.an.now a.ar) (lent a.bp.now a.bn.now a.br)} a.planes.now a.nodes.now a.work.now c.wipe.new.planes c.wipe.new.nodes c.wipe.auto.planes c.wipe.auto.nodes j.ensures
-    c.in_default.is (c.wipe-in_default.ensures.planes ∙ ap (λ n. replicate n (pos 0)) (j.auto.planes ∙ c.wipe.auto.planes)) (c.wipe-in_default.ensures.nodes ∙ ap (λ n. replicate n 0) (j.auto.nodes ∙ c.wipe.auto.nodes)) (c.clear.ensures ∙ ap (λ n. replicate n (pos 0)) j.auto.work)
-
 pub returns : goal.returns
-returns c =
-    let a = c.args in
-    let j = c.merge_judged-m in
-    told_solid {q = merge_of a.op (lent a.ap.now a.an.now a.ar) (lent a.bp.now a.bn.now a.br)} a.planes.now a.nodes.now a.work.now c.wipe.new.planes c.wipe.new.nodes c.wipe.auto.planes c.wipe.auto.nodes j.ensures
-    c.in-Solid.is (j.auto.planes ∙ c.wipe.auto.planes) (j.auto.nodes ∙ c.wipe.auto.nodes) (c.clear.ensures ∙ ap (λ n. replicate n (pos 0)) j.auto.work)
+returns c = told_given c.give.ensures c.give.auto.planes c.give.auto.nodes (λ l. search (rules, c.give.ensures.enough l))

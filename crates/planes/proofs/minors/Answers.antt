@@ -2,34 +2,14 @@
 use Rattle.scope.specs.Planes.{meet}
 use Rattle.planes.specs.Values.{quad}
 use Rattle.planes.specs.Bounds.{rows_bcd, rows_acd, rows_abd, rows_abc}
-use Rattle.planes.proofs.Laws.{asked, det_turned_fits, det_turned, det_kept}
+use Rattle.planes.proofs.Laws.{det_turned_fits, det_turned, det_kept}
 use Rattle.planes.proofs.minors.Goals as goal
-
-pub det3-requires : goal.det3-requires
-det3-requires c =
-    let h = c.requires in
-    search asked
 
 pub overflow_sub-result : goal.overflow_sub-result
 overflow_sub-result c = let h = c.requires in det_turned_fits (rows_bcd h.first h.second h.third) c.det3.ensures
 
-pub det3-requires-2 : goal.det3-requires-2
-det3-requires-2 c =
-    let h = c.requires in
-    search asked
-
-pub det3-requires-3 : goal.det3-requires-3
-det3-requires-3 c =
-    let h = c.requires in
-    search asked
-
 pub overflow_sub-result-2 : goal.overflow_sub-result-2
 overflow_sub-result-2 c = let h = c.requires in det_turned_fits (rows_abd h.first h.second h.third) c.det3-3.ensures
-
-pub det3-requires-4 : goal.det3-requires-4
-det3-requires-4 c =
-    let h = c.requires in
-    search asked
 
 -- the four numbers, each handed on
 pub returns : goal.returns

@@ -1,39 +1,42 @@
 -- `points::point` meets its contract, a lemma of proofs/Points for each way out. Assumes nothing.
-use Rattle.planes.specs.Bounds.{PointIn}
 use mathlib.Core.Path.{sym, subst}
-use lib.IntN.{ℤ}
 use mir.Syntax.{w64}
 use mir.Val.{SFits, to_z, of_z}
 use mir.Facts.{to_z-of_z}
-use Rattle.planes.specs.Values.{quad}
+use borrow.Author.Rules.{rules}
+use Rattle.std.specs.Prelude.{Result}
+use Rattle.std.proofs.lemmas.Result.{err_from_is_err_and}
+use Rattle.planes.specs.Values.{point}
+use Rattle.planes.specs.Bounds.{PointIn}
 use Rattle.planes.specs.Promises.{PointMade}
-use Rattle.planes.specs.declared.MadePoint.{MadePoint}
+use Rattle.planes.specs.declared.Point.{Point}
+use Rattle.planes.specs.declared.PointFault.{PointFault}
 use Rattle.points.specs.Promises.{Walked}
 use Rattle.points.proofs.Points.{made_good, made_bad, tell_refused, judged_sound, tell_bad, tell_walked}
 use Rattle.points.proofs.point.Goals as goal
 
-pub returns-in_default : goal.returns-in_default
-returns-in_default c =
-    tell_refused c.judge-j.ensures (quad c.args.x c.args.y c.args.z c.args.w) c.in_default.is c.number.ensures
+pub returns-in_err-judge : goal.returns-in_err-judge
+returns-in_err-judge c =
+    let p = err_from_is_err_and c.from_residual.result c.from_residual.ensures.1 in
+    rw (p.1, p.2) (tell_refused (point c.args.x) c.in_err-judge.ensures)
 
 -- the point as it was given: a number that fits is what its word reads as
-made : {x y z w : ℤ} {r : MadePoint} → SFits w64 x → SFits w64 y → SFits w64 z → SFits w64 w → PointMade (to_z w64 (of_z w64 x)) (to_z w64 (of_z w64 y)) (to_z w64 (of_z w64 z)) (to_z w64 (of_z w64 w)) r → PointMade x y z w r
-made a b c d h = rw (to_z-of_z a, to_z-of_z b, to_z-of_z c, to_z-of_z d) at h
+made : (X : Point) {r : Result Point PointFault} → SFits w64 X.x → SFits w64 X.y → SFits w64 X.z → SFits w64 X.w → PointMade (to_z w64 (of_z w64 X.x)) (to_z w64 (of_z w64 X.y)) (to_z w64 (of_z w64 X.z)) (to_z w64 (of_z w64 X.w)) r → PointMade X.x X.y X.z X.w r
+made X a b c d h = rw (to_z-of_z a, to_z-of_z b, to_z-of_z c, to_z-of_z d) at h
 
-pub returns-in_default-new : goal.returns-in_default-new
-returns-in_default-new c =
-    let j = c.judge-j.ensures in
-    tell_bad j c.in-Sound.is (quad c.args.x c.args.y c.args.z c.args.w) (made_bad (made c.ranges.x c.ranges.y c.ranges.z c.ranges.w c.new.ensures) c.in_default-new.not-Made)
+pub returns-in_default : goal.returns-in_default
+returns-in_default c =
+    let h = made c.args.x (search rules) (search rules) (search rules) (search rules) c.new.ensures in
+    tell_bad c.in_ok-judge.ensures (point c.args.x) (made_bad h c.in_default.not-Ok)
 
 pub walk-requires : goal.walk-requires
 walk-requires c =
-    let j = c.judge-j.ensures in
-    let t = judged_sound j c.in-Sound.is in
-    let g = made_good (made c.ranges.x c.ranges.y c.ranges.z c.ranges.w c.new.ensures) c.in-Made.is in
+    let t = judged_sound c.in_ok-judge.ensures in
+    let g = made_good (made c.args.x (search rules) (search rules) (search rules) (search rules) c.new.ensures) c.in-Ok.is in
     record { tree = t.tree; solid = t.held; point_in = subst (λ u. PointIn u.x u.y u.z u.w) (sym g.same) g.limits }
 
 pub returns : goal.returns
 returns c =
-    let j = c.judge-j.ensures in
-    let g = made_good (made c.ranges.x c.ranges.y c.ranges.z c.ranges.w c.new.ensures) c.in-Made.is in
-    tell_walked j c.in-Sound.is (quad c.args.x c.args.y c.args.z c.args.w) g.ok (subst (λ u. Walked c.args.planes.now c.args.nodes.now c.args.root u c.walk.result) g.same c.walk.ensures)
+    let s = c.args.s.now in
+    let g = made_good (made c.args.x (search rules) (search rules) (search rules) (search rules) c.new.ensures) c.in-Ok.is in
+    tell_walked c.in_ok-judge.ensures (point c.args.x) g.ok (subst (λ u. Walked s.planes.now s.nodes.now s.root u c.walk.result) g.same c.walk.ensures)

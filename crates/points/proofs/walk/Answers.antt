@@ -13,24 +13,21 @@ step-requires c =
 
 pub returns-in_default : goal.returns-in_default
 returns-in_default c =
-    let a = c.args in
-    record { exact = λ t s. walk_on (point a.x) s c.loop-code-test.true (c.loop-code.invariant t s) c.step.ensures c.in_default.is }
+    record { exact = λ t s. walk_on (point c.args.x) s c.loop-code-test.true (c.loop-code.invariant t s) c.step.ensures c.in_default.is }
 
 pub loop-code-smaller : goal.loop-code-smaller
 loop-code-smaller c =
     let w = c.requires in
-    walk_less (point c.args.x) w.solid c.loop-code-test.true (c.loop-code.invariant w.tree w.solid) c.step.ensures c.in-To.is
+    walk_less (point c.args.x) w.solid c.loop-code-test.true (c.loop-code.invariant w.tree w.solid) c.step.ensures c.in-Some.is
 
 pub loop-code-preserved : goal.loop-code-preserved
 loop-code-preserved c =
-    λ t h. walk_to (point c.args.x) h c.loop-code-test.true (c.loop-code.invariant t h) c.step.ensures c.in-To.is
+    λ t h. walk_to (point c.args.x) h c.loop-code-test.true (c.loop-code.invariant t h) c.step.ensures c.in-Some.is
 
 pub returns-then-code : goal.returns-then-code
 returns-then-code c =
-    let a = c.args in
-    record { exact = λ t s. walk_in (point a.x) s c.loop-code-test.false (c.loop-code.invariant t s) c.if-code.true }
+    record { exact = λ t s. walk_in (point c.args.x) s c.loop-code-test.false (c.loop-code.invariant t s) c.if-code.true }
 
-pub returns : goal.returns
-returns c =
-    let a = c.args in
-    record { exact = λ t s. walk_out (point a.x) s c.loop-code-test.false (c.loop-code.invariant t s) c.if-code.false }
+pub returns-else-code : goal.returns-else-code
+returns-else-code c =
+    record { exact = λ t s. walk_out (point c.args.x) s c.loop-code-test.false (c.loop-code.invariant t s) c.if-code.false }

@@ -5,7 +5,7 @@ use Rattle.points.proofs.Walks.{Below, rank}
 use Rattle.points.proofs.walk.Given as goal
 
 abbrev pub invariant-loop-code : goal.invariant-loop-code
-invariant-loop-code l = (t : Tree) → SolidOf l.planes l.nodes l.root t → Below t (point l.x) l.code
+invariant-loop-code l = (t : Tree) → SolidOf l.s.planes.now l.s.nodes.now l.s.root t → Below t (point l.x) l.code
 
 abbrev pub decreases-loop-code : goal.decreases-loop-code
 decreases-loop-code l = rank l.code

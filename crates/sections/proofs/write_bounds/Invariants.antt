@@ -1,6 +1,5 @@
 use mathlib.Core.Path.{◌≡◌}
 use mathlib.Core.List.{map}
-use Prim.Native.Nat.{◌-◌, ◌≤◌}
 use lib.ListN.{length}
 use lib.Seq.{sets}
 use Rattle.scope.specs.Answers.{flat_planes}
@@ -8,7 +7,7 @@ use Rattle.polygons.specs.Tables.{look, indices}
 use Rattle.sections.proofs.write_bounds.Given as goal
 
 abbrev pub invariant-loop-i : goal.invariant-loop-i
-invariant-loop-i l = (l.i ≤ l.n) × (length l.bounds ≡ length l.initial.bounds) × (l.bounds ≡ sets l.initial.bounds 0 (flat_planes (map (look l.halves 4) (indices l.t l.i))))
-
-abbrev pub decreases-loop-i : goal.decreases-loop-i
-decreases-loop-i l = l.n - l.i
+invariant-loop-i l = record {
+  as_many : length l.bounds ≡ length l.initial.bounds;
+  written : l.bounds ≡ sets l.initial.bounds 0 (flat_planes (map (look l.hs.numbers.now l.hs.width) (indices l.t l.i)));
+}

@@ -1,10 +1,9 @@
-use mathlib.Core.Path.{◌≡◌}
 use Prim.Native.Nat.{◌-◌, ◌≤◌}
 use lib.ListN.{length}
 use Rattle.sections_show.proofs.cases.Given as goal
 
-abbrev pub invariant-loop-at : goal.invariant-loop-at
-invariant-loop-at l = (l.at ≤ length l.text) × (length l.plane ≡ length l.initial.plane) × (length l.halves ≡ length l.initial.halves) × (length l.bounds ≡ length l.initial.bounds) × (length l.work ≡ length l.initial.work)
+abbrev pub invariant-loop-next : goal.invariant-loop-next
+invariant-loop-next l = l.c.at ≤ length l.text
 
-abbrev pub decreases-loop-at : goal.decreases-loop-at
-decreases-loop-at l = length l.text - l.at
+abbrev pub decreases-loop-next : goal.decreases-loop-next
+decreases-loop-next l = length l.text - l.c.at

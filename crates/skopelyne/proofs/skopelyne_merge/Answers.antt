@@ -1,4 +1,5 @@
 -- `skopelyne::skopelyne_merge` meets its contract. Assumes nothing.
+use Rattle.refusals.specs.Numbers.{numbered}
 use Rattle.skopelyne.proofs.skopelyne_merge.Goals as goal
 
 pub returns : goal.returns

@@ -1,9 +1,10 @@
 -- `skopelyne::skopelyne_point` meets its contract. Assumes nothing.
 use mathlib.Core.Path.{subst}
 use mir.Facts.{to_z-of_z}
+use Rattle.refusals.specs.Numbers.{numbered}
 use Rattle.points.specs.Promises.{Tells}
 use Rattle.planes.specs.Values.{quad}
 use Rattle.skopelyne.proofs.skopelyne_point.Goals as goal
 
 pub returns : goal.returns
-returns c = record { answer = c.point-r.result; promise = subst (λ X. Tells c.args.planes.now c.args.nodes.now c.args.root X c.args.work.now c.point-r.new.work c.point-r.result) (λ i. quad (to_z-of_z c.ranges.x i) (to_z-of_z c.ranges.y i) (to_z-of_z c.ranges.z i) (to_z-of_z c.ranges.w i)) c.point-r.ensures; number = c.placed.ensures.0; place = c.placed.ensures.1 }
+returns c = record { answer = c.point-r.result; promise = subst (λ X. Tells c.args.planes.now c.args.nodes.now c.args.root X c.args.work.now c.point-r.new.work (numbered c.point-r.result)) (λ i. quad (to_z-of_z c.ranges.x i) (to_z-of_z c.ranges.y i) (to_z-of_z c.ranges.z i) (to_z-of_z c.ranges.w i)) c.point-r.ensures; number = c.placed.ensures.0; place = c.placed.ensures.1 }

@@ -1,4 +1,5 @@
 -- `skopelyne::skopelyne_read` meets its contract. Assumes nothing.
+use Rattle.refusals.specs.Numbers.{lined}
 use Rattle.skopelyne.proofs.skopelyne_read.Goals as goal
 
 pub returns : goal.returns

@@ -1,5 +1,6 @@
 -- `skopelyne::skopelyne_write` meets its contract. Assumes nothing.
+use Rattle.refusals.specs.Numbers.{numbered}
 use Rattle.skopelyne.proofs.skopelyne_write.Goals as goal
 
 pub returns : goal.returns
-returns c = record { answer = c.write-r.result; promise = c.write-r.ensures; number = c.wrote.ensures.0; length = c.wrote.ensures.1 }
+returns c = record { answer = c.write.result; promise = c.write.ensures; number = c.tell.ensures.number; length = c.tell.ensures.value }

@@ -6,4 +6,4 @@ abbrev pub decreases-form_cell : goal.decreases-form_cell
 decreases-form_cell l = (length l.boundary.now - l.k) * 2 + 1
 
 abbrev pub decreases-form_halves : goal.decreases-form_halves
-decreases-form_halves l = (length l.boundary.now - l.k) * 2
+decreases-form_halves l = (length l.boundary.now - l.at.place) * 2

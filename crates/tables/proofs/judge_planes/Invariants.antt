@@ -1,11 +1,8 @@
 use mathlib.Core.Path.{◌≡◌}
-use Prim.Native.Nat.{ℕ, ◌-◌, ◌≤◌, ◌<◌}
+use Prim.Native.Nat.{ℕ, ◌<◌}
+use Rattle.std.specs.Prelude.{Ok}
 use Rattle.tables.specs.Promises.{plane_judged}
-use Rattle.tables.specs.declared.Judged.TheVariants.{Fine}
 use Rattle.tables.proofs.judge_planes.Given as goal
 
 abbrev pub invariant-loop-i : goal.invariant-loop-i
-invariant-loop-i l = (l.i ≤ l.n) × ((j : ℕ) → j < l.i → plane_judged l.planes j ≡ Fine)
-
-abbrev pub decreases-loop-i : goal.decreases-loop-i
-decreases-loop-i l = l.n - l.i
+invariant-loop-i l = (j : ℕ) → j < l.i-counter → plane_judged l.planes j ≡ Ok tt

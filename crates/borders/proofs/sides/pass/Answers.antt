@@ -1,6 +1,4 @@
 -- `borders::sides::pass` meets its contract (proofs/Passes). Assumes nothing.
-use lib.Dec.{lit<}
-use Rattle.walks.proofs.Ways.{field_in}
 use Rattle.borders.proofs.Passes.{own_told, parts_in, told_front, told_behind, told_both}
 use Rattle.borders.proofs.sides.pass.Goals as goal
 
@@ -10,17 +8,11 @@ returns-then-n-t c = own_told c.requires c.number_of-n.ensures c.if-n-t.true c.o
 pub parted-requires : goal.parted-requires
 parted-requires c = parts_in c.requires c.number_of-n.ensures c.if-n-t.false c.row-p.ensures c.row.ensures
 
-pub field-requires : goal.field-requires
-field-requires c = field_in c.requires.row 1 (lit< tt)
-
-pub field-requires-in-Behind : goal.field-requires-in-Behind
-field-requires-in-Behind c = field_in c.requires.row 2 (lit< tt)
-
 pub returns-in-Front : goal.returns-in-Front
-returns-in-Front c = told_front c.requires c.number_of-n.ensures c.if-n-t.false c.row-p.ensures c.row.ensures c.parted.ensures c.in-Front.is c.field.ensures
+returns-in-Front c = told_front c.requires c.number_of-n.ensures c.if-n-t.false c.row-p.ensures c.row.ensures c.parted.ensures c.in-Front.is c.front.ensures
 
 pub returns-in-Behind : goal.returns-in-Behind
-returns-in-Behind c = told_behind c.requires c.number_of-n.ensures c.if-n-t.false c.row-p.ensures c.row.ensures c.parted.ensures c.in-Behind.is c.field-in-Behind.ensures
+returns-in-Behind c = told_behind c.requires c.number_of-n.ensures c.if-n-t.false c.row-p.ensures c.row.ensures c.parted.ensures c.in-Behind.is c.back.ensures
 
 pub returns-in-Both : goal.returns-in-Both
 returns-in-Both c = told_both c.requires c.number_of-n.ensures c.if-n-t.false c.row-p.ensures c.row.ensures c.parted.ensures c.in-Both.is

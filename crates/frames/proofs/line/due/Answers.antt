@@ -1,35 +1,22 @@
 -- `frames::line::due` meets its contract. Assumes nothing.
-use native.Mathlib.Omega.{arith}
-use Rattle.frames.specs.Promises.{missing, malformed}
-use Rattle.frames.proofs.Told.{due_yes, due_other_size, due_other_kind}
+use Rattle.std.proofs.Common.{arith, rules}
+use Rattle.frames.specs.Bytes.{first_byte}
+use Rattle.frames.specs.Promises.{missing}
+use Rattle.frames.proofs.Shapes.{byte_is}
+use Rattle.frames.proofs.Told.{due_bad, due_yes, due_other_size, due_other_kind}
 use Rattle.frames.proofs.line.due.Goals as goal
 
-pub returns-then-n-size : goal.returns-then-n-size
-returns-then-n-size c =
-    due_other_size c.args.text.now c.args.c.at c.args.kind c.args.size c.in-Whole.n c.in-Whole.ensures c.requires.1 (λ e. omega (arith, c.if-n-size.true))
+pub returns-in_err-n : goal.returns-in_err-n
+returns-in_err-n g c = search (rules, due_bad)
 
-pub byte-k-requires : goal.byte-k-requires
-byte-k-requires c = omega (arith, c.in-Whole.ensures.some, c.in-Whole.ensures.reads.inside)
+pub returns-in_default : goal.returns-in_default
+returns-in_default g c = missing (search rules)
 
-pub returns-then-k-kind : goal.returns-then-k-kind
-returns-then-k-kind c =
-    due_other_kind c.args.text.now c.args.c.at c.args.kind c.args.size c.in-Whole.n c.in-Whole.ensures c.requires.1 (λ e. omega (arith, c.byte-k.ensures, c.if-k-kind.true))
+pub returns-then-n : goal.returns-then-n
+returns-then-n g c = due_other_size c.args.text.now c.args.c.at (first_byte c.args.kind) g.row.N _ (rw c.in-Some.is at c.in_ok-n.ensures) c.requires.1 c.if-n.true
 
-pub overflow_mul-result : goal.overflow_mul-result
-overflow_mul-result c = omega (arith, c.if-n-size.false, c.in-Whole.ensures.reads.inside, c.well_formed)
+pub returns-then-frame-kind : goal.returns-then-frame-kind
+returns-then-frame-kind g c = due_other_kind c.args.text.now c.args.c.at (first_byte c.args.kind) g.row.N _ (rw c.in-Some.is at c.in_ok-n.ensures) c.bytes-frame.ensures c.requires.1 c.if-n.false (λ e. omega (arith, byte_is c.args.kind, c.if-frame-kind.true))
 
-pub overflow_add-result : goal.overflow_add-result
-overflow_add-result c = omega (arith, c.if-n-size.false, c.in-Whole.ensures.reads.inside, c.well_formed)
-
-pub overflow_add-result-in-Whole : goal.overflow_add-result-in-Whole
-overflow_add-result-in-Whole c = omega (arith, c.if-n-size.false, c.in-Whole.ensures.reads.inside, c.well_formed)
-
-pub returns-in-Missing : goal.returns-in-Missing
-returns-in-Missing c = missing c.in-Missing.ensures
-
-pub returns-in-Bad : goal.returns-in-Bad
-returns-in-Bad c = malformed c.in-Bad.ensures.is
-
-pub returns-else-k-kind : goal.returns-else-k-kind
-returns-else-k-kind c =
-    due_yes c.args.text.now c.args.c.at c.args.kind c.args.size c.in-Whole.n c.in-Whole.ensures (omega (arith, c.if-n-size.false)) (omega (arith, c.byte-k.ensures, c.if-k-kind.false))
+pub returns : goal.returns
+returns g c = due_yes c.args.text.now c.args.c.at (first_byte c.args.kind) g.row.N _ (rw c.in-Some.is at c.in_ok-n.ensures) c.bytes-frame.ensures c.if-n.false (omega (arith, byte_is c.args.kind, c.if-frame-kind.false))

@@ -1,15 +1,8 @@
 -- `frames::write::put_head` meets its contract. Assumes nothing.
-use native.Mathlib.Omega.{arith}
 use Rattle.scope.specs.Text.{bytes}
-use Rattle.frames.proofs.Writing.{head_fits}
+use Rattle.frames.proofs.Writing.{head_fits, put_words}
 use Rattle.frames.proofs.write.put_head.Goals as goal
-
-pub overflow_cast-n : goal.overflow_cast-n
-overflow_cast-n c = omega (arith, (head_fits c.requires.1).0)
-
-pub overflow_cast-m : goal.overflow_cast-m
-overflow_cast-m c = omega (arith, (head_fits c.requires.1).1)
 
 pub returns : goal.returns
 unfolding bytes
-returns c = c.put_six.ensures
+returns c = put_words 1 c.args.h.planes c.to_be_bytes.ensures c.to_be_bytes-2.ensures (head_fits c.requires.1).1 (head_fits c.requires.1).2 c.put_line.ensures

@@ -1,41 +1,33 @@
--- `lines::reading::read_rows` meets its contract: planes, nodes and the end, or the first that is refused (proofs/Whole). Assumes nothing.
-use mathlib.Core.Path.{sym, subst}
-use Prim.Native.Nat.{◌+◌}
-use native.Mathlib.Omega.{arith}
-use Rattle.lines.specs.Reading.{PlanesTold, NodesTold, RowsTold}
-use Rattle.lines.proofs.Whole.{rows_no_node, rows_end}
+-- `lines::reading::read_rows` meets its contract: planes, nodes and the end, or the first that is refused. Assumes nothing.
+use Rattle.std.proofs.Common.{◌≡◌, rules}
+use Rattle.std.specs.Prelude.{Result, Ok, Err}
+use Rattle.refusals.specs.declared.Refusal.{Refusal}
+use Rattle.refusals.specs.declared.LineRefusal.{LineRefusal}
+use Rattle.frames.specs.declared.Cursor.{Cursor}
+use Rattle.lines.specs.declared.Place.{Place}
+use Rattle.lines.proofs.Whole.{rows_no_node, rows_no_end, rows_end}
 use Rattle.lines.proofs.reading.read_rows.Goals as goal
 
-pub returns-in_default : goal.returns-in_default
-returns-in_default c =
-    let e = c.in_default.is in
-    let p = c.read_planes-p in
-    subst (RowsTold c.args.text.now c.args.c.at c.args.l c.args.s p.new.planes c.args.nodes.now) (sym e)
-    (λ a. subst (PlanesTold c.args.text.now c.args.c.at c.args.l c.args.s.planes p.new.planes) e p.ensures a c.args.s.nodes c.args.s.root)
+pub returns-in_err-end : goal.returns-in_err-end
+returns-in_err-end c =
+    let r = c.in_err-end.field-0.0 in
+    let f : ◌≡◌ {A = Result Place LineRefusal} c.from_residual-in_err-end.result (Err r) = search rules in
+    let p = c.in_ok-after.ensures in
+    rw f (rows_no_node c.args.from.line c.args.s c.requires.few_planes p.0 c.read_nodes.new.nodes c.read_nodes.new.work (rw p.1 at c.in_err-end.ensures))
 
-pub read_nodes-q-requires : goal.read_nodes-q-requires
-read_nodes-q-requires c =
-    record {
-      inside = c.in-At.ensures.inside;
-      line = omega (arith, c.requires.line, c.requires.few_planes);
-      few_planes = c.requires.few_planes;
-      few = c.requires.few_nodes;
-      room = c.requires.node_room;
-      blank = c.requires.blank.nodes;
-      work_room = c.requires.work_room;
-      work = c.requires.blank.work;
-    }
-
-pub returns-in_default-q : goal.returns-in_default-q
-returns-in_default-q c =
-    let a = c.args in
-    let e = c.in_default-q.is in
-    let q = c.read_nodes-q in
-    subst (RowsTold a.text.now a.c.at a.l a.s c.read_planes-p.new.planes q.new.nodes) (sym e)
-    (rows_no_node a.l a.s c.requires.few_planes c.in-At.ensures q.new.nodes q.new.work (subst (NodesTold a.text.now c.in-At.after.at (a.l + a.s.planes) a.s.planes a.s.nodes q.new.nodes q.new.work) e q.ensures))
-
-pub read_end-requires : goal.read_end-requires
-read_end-requires c = (c.in-At-q.ensures.0, omega (arith, c.requires.few_planes, c.requires.work_room, c.read_nodes-q.auto.work))
+pub returns-in_err-cursor : goal.returns-in_err-cursor
+returns-in_err-cursor c =
+    let r = c.in_err-cursor.field-0.0 in
+    let e : ◌≡◌ {A = Result Cursor Refusal} c.read_end.result (Err r.refusal) = search rules in
+    let f : ◌≡◌ {A = Result Place LineRefusal} c.from_residual-in_err-cursor.result (Err r) = search rules in
+    let g : r.line ≡ c.in_ok-end.end.line = search rules in
+    let p = c.in_ok-after.ensures in
+    let q = rw p.1 at c.in_ok-end.ensures in
+    rw (f, g, q.1) (rows_no_end c.args.from.line c.args.s c.requires.few_planes p.0 (q.2 p.0.planes p.0.count) (rw e at c.read_end.ensures))
 
 pub returns : goal.returns
-returns c = let p = c.in-At.ensures in rows_end c.args.l c.args.s c.requires.few_planes p (c.in-At-q.ensures.1 p.planes p.count) c.read_end.ensures
+returns c =
+    let e : ◌≡◌ {A = Result Cursor Refusal} c.read_end.result (Ok c.in_ok-cursor.cursor) = search rules in
+    let p = c.in_ok-after.ensures in
+    let q = rw p.1 at c.in_ok-end.ensures in
+    rw q.1 (rows_end c.args.from.line c.args.s c.requires.few_planes p.0 (q.2 p.0.planes p.0.count) (rw e at c.read_end.ensures))

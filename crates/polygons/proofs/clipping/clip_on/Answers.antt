@@ -1,26 +1,42 @@
--- `polygons::clipping::clip_on` meets its contract. Assumes nothing.
+-- `polygons::clipping::clip_on` meets its contract. The mathematics is in proofs/Clips. Assumes nothing.
+use mathlib.Core.Path.{◌≡◌, sym, ◌∙◌}
 use native.Mathlib.Omega.{arith}
-use Rattle.planes.specs.Values.{plane}
-use Rattle.polygons.proofs.Clips.{on_same, on_gone, on_cut}
+use lib.ListN.{length, length-take}
+use lib.Seq.{length-take-le}
+use Rattle.planes.specs.declared.Side.{Side}
+use Rattle.polygons.proofs.Clips.{clip_n, clip_side, clip_same, clip_gone, clip_emit, clip_cut}
 use Rattle.polygons.proofs.clipping.clip_on.Goals as goal
 
-pub clip-requires : goal.clip-requires
-clip-requires c = c.requires
+pub all_front-requires : goal.all_front-requires
+all_front-requires c = clip_side _ _ _ _ _ _ _ c.requires c.bound-h.result c.bound-h.ensures
 
-pub overflow_mul-m : goal.overflow_mul-m
-overflow_mul-m c = omega (arith, (c.clip.ensures.cut c.in-Cut.m c.in-Cut.is).0)
+pub returns-then-all_front : goal.returns-then-all_front
+returns-then-all_front c = clip_same _ _ _ _ _ _ _ c.requires c.bound-h.result c.bound-h.ensures (c.all_front.ensures.yes c.if-all_front.true)
 
-pub copy-requires : goal.copy-requires
-copy-requires c =
-    let l = (c.clip.ensures.cut c.in-Cut.m c.in-Cut.is).0 in
-    (omega (arith, l, c.requires.out_room, c.clip.auto.s), omega (arith, l, c.requires.room))
+pub slice_bounds-table-end : goal.slice_bounds-table-end
+slice_bounds-table-end c = omega (arith, clip_n _ _ _ _ _ _ _ c.requires)
 
-pub returns-in-Same : goal.returns-in-Same
-returns-in-Same c = on_same (plane c.args.s) c.args.hs.now c.args.width c.args.k c.args.t.now c.args.n c.args.out.now c.requires (c.clip.ensures.same c.in-Same.is)
+pub slice_bounds-sides-end : goal.slice_bounds-sides-end
+slice_bounds-sides-end c = sym (length-take-le c.args.n _ (omega (arith, clip_n _ _ _ _ _ _ _ c.requires)))
 
-pub returns-in-Gone : goal.returns-in-Gone
-returns-in-Gone c = on_gone (plane c.args.s) c.args.hs.now c.args.width c.args.k c.args.t.now c.args.n c.args.out.now c.requires (c.clip.ensures.gone c.in-Gone.is)
+pub sides_of-requires : goal.sides_of-requires
+sides_of-requires c = λ i l. clip_side _ _ _ _ _ _ _ c.requires c.bound-h.result c.bound-h.ensures i (omega (arith, length-take {A = Side}))
 
-pub returns-in-Cut : goal.returns-in-Cut
-returns-in-Cut c =
-    on_cut (plane c.args.s) c.args.hs.now c.args.width c.args.k c.args.t.now c.args.n c.args.out.now c.requires c.clip.new.out c.copy.new.to c.in-Cut.m (c.clip.ensures.cut c.in-Cut.m c.in-Cut.is) c.copy.auto.to c.copy.ensures
+pub returns-then-not-sides_of : goal.returns-then-not-sides_of
+returns-then-not-sides_of c =
+    let o = c.sides_of in
+    let q : length o.new.sides ≡ c.args.n = o.auto.sides ∙ length-take-le c.args.n _ (omega (arith, clip_n _ _ _ _ _ _ _ c.requires)) in
+    clip_gone _ _ _ _ _ _ _ c.requires c.bound-h.result c.bound-h.ensures o.new.sides q o.result o.ensures c.if-not-sides_of.true
+
+pub emit-m-requires : goal.emit-m-requires
+emit-m-requires c =
+    let o = c.sides_of in
+    let q : length o.new.sides ≡ c.args.n = o.auto.sides ∙ length-take-le c.args.n _ (omega (arith, clip_n _ _ _ _ _ _ _ c.requires)) in
+    clip_emit _ _ _ _ _ _ _ c.requires c.bound-h.result c.bound-h.ensures o.new.sides q o.result o.ensures
+
+pub returns : goal.returns
+returns c =
+    let o = c.sides_of in
+    let u = c.emit-m in
+    let q : length o.new.sides ≡ c.args.n = o.auto.sides ∙ length-take-le c.args.n _ (omega (arith, clip_n _ _ _ _ _ _ _ c.requires)) in
+    rw c.copy_from_slice.ensures.after (clip_cut _ _ _ _ _ _ _ c.requires c.bound-h.result c.bound-h.ensures o.new.sides q o.result o.ensures u.new.out u.result u.ensures (omega (arith, u.auto.out, c.requires.out_room)))

@@ -36,6 +36,5 @@ returns-in-4 c = c.four-in-4.ensures ∙ at (plane c.args.s) c.in-4.is
 pub returns-in_default : goal.returns-in_default
 unfolding starts six way_of
 returns-in_default c =
-    let r = c.in_default.in_default-own.rest in
-    let e : c.args.w ≡ 5 = omega (arith, c.requires.1, r.1, r.0.1, r.0.0.1, r.0.0.0.1, r.0.0.0.0.1) in
+    let e : c.args.w ≡ 5 = omega arith in
     c.four-in_default.ensures ∙ at (plane c.args.s) e
