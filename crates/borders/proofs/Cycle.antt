@@ -4,7 +4,7 @@
 --     back_asked                      the path behind the row, as it was
 --     node_front, node_back           the node's walk, from the answers of its sides
 --     meets_same                      a plane and a cell, where the path's rows are as they were
---     pass_in, both_in, code_in, follow_in, walk_in  what the calls of a side's walk are given
+--     pass_in, both_in, code_in, walk_in  what the calls of a side's walk are given
 --     side_both, side_code, side_end, side_walk      the side's walk, from the answers of these
 use mathlib.Core.Path.{◌≡◌, refl, sym, ap, subst, ◌∙◌}
 use mathlib.Core.Bool.{Bool, true, false}
@@ -15,11 +15,11 @@ use native.Mathlib.Omega.{arith}
 use lib.IntN.{ℤ}
 use lib.ListN.{length, get_or}
 use Rattle.std.specs.Prelude as std
-use Rattle.std.specs.Prelude.{Decides, Some, None, is_none}
+use Rattle.std.specs.Prelude.{Decides, Some, None}
 use Rattle.whole.specs.Members.{◌∈◌}
 use Rattle.whole.specs.Tests.{is_true}
 use Rattle.scope.specs.Planes.{Plane, flip, in_range}
-use Rattle.scope.specs.Solids.{Mark, Tree, node, mark, number}
+use Rattle.scope.specs.Solids.{Mark, Tree, node}
 use Rattle.scope.specs.Cells.{Cuts, Operation, operate}
 use Rattle.theory.specs.Cells.Sides.{half}
 use Rattle.theory.specs.Cells.Path.{OnKept, on_take, on_kept_few}
@@ -30,22 +30,21 @@ use Rattle.tables.specs.Rows.{plane_at}
 use Rattle.cells.specs.Paths.{PathIn, Pushed}
 use Rattle.cells.proofs.Paths.{links_same}
 use Rattle.walks.specs.declared.rows.Operands.{Operands}
-use Rattle.walks.specs.Standing.{rows_of, offset, list, walked, Stands}
-use Rattle.walks.specs.Marks.{turn_code}
+use Rattle.walks.specs.declared.operations.Mark as marks
+use Rattle.walks.specs.Standing.{offset, list, walked, Stands}
+use Rattle.walks.specs.Marks.{operation_of, mark_of, above_of, mark_code}
 use Rattle.walks.specs.Walks.{StandsIn}
-use Rattle.walks.proofs.RowsRead.{offset_b, in_b}
-use Rattle.walks.proofs.Marks.{mark_in}
 use Rattle.walks.proofs.Rank.{rank, rank_below}
-use Rattle.walks.proofs.Ways.{RowAt, as_row, as_mark, code_small}
+use Rattle.walks.proofs.Ways.{RowAt, as_row, as_leaf, code_small}
 use Rattle.walks.proofs.Cycle.{child, front_falls, back_falls}
 use Rattle.walks.specs.Walks.{Ground}
 use Rattle.borders.specs.declared.Stage.{Stage}
 use Rattle.borders.specs.declared.Next.{Next}
 use Rattle.borders.specs.declared.Next.TheVariants.{Walk, Done}
 use Rattle.borders.specs.Bounded.{PairIs}
-use Rattle.borders.specs.Sides.{cell_at, Kept, nowhere, front_code, taken, After, Differs, plane_of, Passes, PassIn, PassTold, FollowIn, Follows, to_b, to_backs, at_end, FollowTold, Meets, Here, SideIn, NodeIn, Did}
+use Rattle.borders.specs.Sides.{cell_at, Kept, nowhere, taken, After, Differs, plane_of, Passes, PassIn, PassTold, staged, Follows, to_b, to_backs, at_end, Meets, Here, SideIn, NodeIn, Did}
 use Rattle.borders.proofs.Paths.{kept_fewer, kept_both, same_rows, cell_same, Laid, laid, laid_first, laid_cell, laid_links, keep_asked}
-use Rattle.borders.proofs.Turns.{leaf_told, front_told, both_told, Leads, leads, leads_falls, fronts_is, left, walk_falls}
+use Rattle.borders.proofs.Turns.{leaf_told, front_told, both_told, Leads, leads, leads_falls, left, walk_falls}
 
 -- the path is as long as it was
 ground_in : {xs path path' : List ℤ} → Ground xs path → length path' ≡ length path → Ground xs path'
@@ -61,17 +60,26 @@ side_stands true q = q.front_stands
 side_stands false q = q.back_stands
 
 -- the tree that a code stands for, in the operand that is walked
-at_tree : {o : Operands} {t : Stage} {r c : ℕ} (h : Here o t r) (w : Tree) → StandsIn o t.mark c w → Here o t c
-at_tree h w st = record { operation = h.operation; tree_a = h.tree_a; tree_b = h.tree_b; pair_is = h.pair_is; front = h.front; front_is = h.front_is; turn = h.turn; turn_is = h.turn_is; tree = w; stands = st }
+at_tree : {o : Operands} {t : Stage} {r c : ℕ} (h : Here o t r) (w : Tree) → StandsIn o t.above c w → Here o t c
+at_tree h w st = record { tree_a = h.tree_a; tree_b = h.tree_b; pair_is = h.pair_is; tree = w; stands = st }
 
 -- ---- a node
 
 module _ {o : Operands} {t : Stage} {path : List ℤ} {depth r : ℕ} (h : NodeIn o t path depth r) where
   abbrev ns : List ℕ
-  ns = walked o t.mark
+  ns = walked o t.above
 
   abbrev xs : List ℤ
   xs = o.planes.now
+
+  abbrev q : Operation
+  q = operation_of t.pair.op
+
+  abbrev f : Option Mark
+  f = above_of t.front
+
+  abbrev j : Option Mark
+  j = above_of t.above
 
   abbrev own : Plane
   own = plane_at xs t.plane
@@ -79,7 +87,7 @@ module _ {o : Operands} {t : Stage} {path : List ℤ} {depth r : ℕ} (h : NodeI
   abbrev other : Plane
   other = plane_of o t r
 
-  pub node_row : RowAt xs o.numbers.now ns (offset t.mark) r h.side.here.tree
+  pub node_row : RowAt xs o.numbers.now ns (offset t.above) r h.side.here.tree
   node_row = as_row h.row h.side.here.stands
 
   other_member : other ∈ list xs
@@ -117,7 +125,7 @@ module _ {o : Operands} {t : Stage} {path : List ℤ} {depth r : ℕ} (h : NodeI
             links = laid_links k h.side.meets.links;
             cuts = subst (Cuts own) (sym (laid_cell k)) (half_cuts s);
           };
-          here = at_tree h.side.here (side_of s node_row) (subst (λ c. StandsIn o t.mark c (side_of s node_row)) (sym e) (side_stands s node_row));
+          here = at_tree h.side.here (side_of s node_row) (subst (λ c. StandsIn o t.above c (side_of s node_row)) (sym e) (side_stands s node_row));
         }
 
     module _ {path'' : List ℤ} {z : Bool} (d : Did o t path' path'' (depth + 1) c z) where
@@ -126,13 +134,13 @@ module _ {o : Operands} {t : Stage} {path : List ℤ} {depth r : ℕ} (h : NodeI
       side_kept = kept_both k.before (kept_fewer (omega arith) d.kept)
 
       -- one side of the row's tree
-      side_told : (q : Operation) (A B : Tree) (f j : Option Mark) (w : Tree) → PairIs o t.pair q A B → t.front ≡ front_code f → t.mark ≡ turn_code j → (st : StandsIn o t.mark r w) → Decides z (Differs q own A B f j (half s other ∷ cell_at path depth) (side_of s (as_row h.row st)))
-      side_told q A B f j w pi ef ej st =
+      side_told : (A B w : Tree) → PairIs o t.pair A B → (st : StandsIn o t.above r w) → Decides z (Differs q own A B f j (half s other ∷ cell_at path depth) (side_of s (as_row h.row st)))
+      side_told A B w pi st =
           let u = as_row h.row st in
-          subst (λ c. Decides z (Differs q own A B f j c (side_of s u))) (laid_cell k) (d.told q A B f j (side_of s u) pi ef ej (subst (λ c. StandsIn o t.mark c (side_of s u)) (sym e) (side_stands s u)))
+          subst (λ c. Decides z (Differs q own A B f j c (side_of s u))) (laid_cell k) (d.told A B (side_of s u) pi (subst (λ c. StandsIn o t.above c (side_of s u)) (sym e) (side_stands s u)))
 
   -- the tree is a node of the row's plane
-  as_node : {w : Tree} (st : StandsIn o t.mark r w) → node other (as_row h.row st).front (as_row h.row st).back ≡ w
+  as_node : {w : Tree} (st : StandsIn o t.above r w) → node other (as_row h.row st).front (as_row h.row st).back ≡ w
   as_node st = let u = as_row h.row st in sym (u.is ∙ ap (λ p. node p u.front u.back) (sym u.row.plane))
 
   -- in front of the row
@@ -150,9 +158,9 @@ module _ {o : Operands} {t : Stage} {path : List ℤ} {depth r : ℕ} (h : NodeI
       pub node_front : z₁ ≡ true → Did o t path path₂ depth r true
       node_front g = record {
         kept = side_kept true front_laid e₁ d₁;
-        told = λ q A B f j w pi ef ej st.
+        told = λ A B w pi st.
             subst (λ w. Decides true (Differs q own A B f j (cell_at path depth) w)) (as_node st)
-            (front_told own (taken f) (After (operate q) own A B f j) h.other h.front_cuts h.back_cuts (side_told true front_laid e₁ d₁ q A B f j w pi ef ej st) g);
+            (front_told own (taken f) (After (operate q) own A B f j) h.other h.front_cuts h.back_cuts (side_told true front_laid e₁ d₁ A B w pi st) g);
       }
 
       -- behind it
@@ -173,9 +181,9 @@ module _ {o : Operands} {t : Stage} {path : List ℤ} {depth r : ℕ} (h : NodeI
           pub node_back : z₁ ≡ false → {path₄ : List ℤ} {z₂ : Bool} → Did o t path₃ path₄ (depth + 1) c₂ z₂ → Did o t path path₄ depth r z₂
           node_back g {path₄} {z₂} d₂ = record {
             kept = side_kept false back_laid e₂ d₂;
-            told = λ q A B f j w pi ef ej st.
+            told = λ A B w pi st.
                 subst (λ w. Decides z₂ (Differs q own A B f j (cell_at path depth) w)) (as_node st)
-                (both_told own (taken f) (After (operate q) own A B f j) h.other h.front_cuts h.back_cuts (side_told true front_laid e₁ d₁ q A B f j w pi ef ej st) g (side_told false back_laid e₂ d₂ q A B f j w pi ef ej st));
+                (both_told own (taken f) (After (operate q) own A B f j) h.other h.front_cuts h.back_cuts (side_told true front_laid e₁ d₁ A B w pi st) g (side_told false back_laid e₂ d₂ A B w pi st));
           }
 
 -- ---- a side
@@ -192,15 +200,24 @@ module _ {o : Operands} {t : Stage} {path : List ℤ} {depth c : ℕ} (h : SideI
   abbrev its : Plane
   its = plane_at ys t.plane
 
+  abbrev q' : Operation
+  q' = operation_of t.pair.op
+
+  abbrev f' : Option Mark
+  f' = above_of t.front
+
+  abbrev j' : Option Mark
+  j' = above_of t.above
+
   -- at a row
   module _ (low : c < 65534) where
     abbrev front : ℕ
-    front = get_or (walked o t.mark) (3 * c + 1) 0
+    front = get_or (walked o t.above) (3 * c + 1) 0
 
     abbrev back : ℕ
-    back = get_or (walked o t.mark) (3 * c + 2) 0
+    back = get_or (walked o t.above) (3 * c + 2) 0
 
-    side_row : RowAt ys o.numbers.now (walked o t.mark) (offset t.mark) c h.here.tree
+    side_row : RowAt ys o.numbers.now (walked o t.above) (offset t.above) c h.here.tree
     side_row = as_row low h.here.stands
 
     pub pass_in : PassIn o t path depth c
@@ -210,13 +227,13 @@ module _ {o : Operands} {t : Stage} {path : List ℤ} {depth c : ℕ} (h : SideI
       same_cell : cell_at path depth ≡ cell_at path' depth
       same_cell = sym (cell_same d.kept)
 
-      passed : {x : std.Option ℕ} → y ≡ x → Passes its (plane_of o t c) (is_none t.front) (cell_at path depth) front back x
-      passed e = subst (Passes its (plane_of o t c) (is_none t.front) (cell_at path depth) front back) e d.passes
+      passed : {x : std.Option ℕ} → y ≡ x → Passes its (plane_of o t c) (taken (above_of t.front)) (cell_at path depth) front back x
+      passed e = subst (Passes its (plane_of o t c) (taken (above_of t.front)) (cell_at path depth) front back) e d.passes
 
       pub both_in : y ≡ None → length path' ≡ length path → NodeIn o t path' depth c
       both_in e l = by (passed e)
         where
-          by : {f g : ℕ} → Passes its (plane_of o t c) (is_none t.front) (cell_at path depth) f g None → NodeIn o t path' depth c
+          by : {f g : ℕ} → Passes its (plane_of o t c) (taken (above_of t.front)) (cell_at path depth) f g None → NodeIn o t path' depth c
           by (Passes.both n i j) = record {
             side = record { meets = meets_same h.meets d.kept l; here = h.here };
             row = low;
@@ -228,16 +245,14 @@ module _ {o : Operands} {t : Stage} {path : List ℤ} {depth c : ℕ} (h : SideI
       pub side_both : {path'' : List ℤ} {z : Bool} → Did o t path' path'' depth c z → Did o t path path'' depth c z
       side_both {path''} {z} k = record {
         kept = kept_both d.kept k.kept;
-        told = λ q A B f j w pi ef ej st. subst (λ e. Decides z (Differs q its A B f j e w)) (sym same_cell) (k.told q A B f j w pi ef ej st);
+        told = λ A B w pi st. subst (λ e. Decides z (Differs q' its A B f' j' e w)) (sym same_cell) (k.told A B w pi st);
       }
 
       module _ {e : ℕ} (g : y ≡ Some e) where
         -- the code's tree, and what it tells of the row's
-        onto : (q : Operation) (A B : Tree) (f j : Option Mark) {w : Tree} → t.front ≡ front_code f → (st : StandsIn o t.mark c w)
-            → Leads ys o.numbers.now (walked o t.mark) (offset t.mark) its (plane_of o t c) (taken f) (After (operate q) its A B f j) (cell_at path depth) (as_row low st).front (as_row low st).back e
-        onto q A B f j ef st =
-            let u = as_row low st in
-            leads (After (operate q) its A B f j) u.front_stands u.back_stands (subst (λ s. Passes its (plane_of o t c) s (cell_at path depth) front back (Some e)) (fronts_is f ef) (passed g))
+        onto : (A B : Tree) {w : Tree} (st : StandsIn o t.above c w)
+            → Leads ys o.numbers.now (walked o t.above) (offset t.above) its (plane_of o t c) (taken f') (After (operate q') its A B f' j') (cell_at path depth) (as_row low st).front (as_row low st).back e
+        onto A B st = let u = as_row low st in leads (After (operate q') its A B f' j') u.front_stands u.back_stands (passed g)
 
         pub code_falls : e < 65534 → e < c
         code_falls = leads_falls (passed g) side_row.row.front_less side_row.row.back_less
@@ -245,69 +260,58 @@ module _ {o : Operands} {t : Stage} {path : List ℤ} {depth c : ℕ} (h : SideI
         pub code_in : length path' ≡ length path → SideIn o t path' depth e
         code_in l =
             let i = h.here in
-            let u = onto i.operation i.tree_a i.tree_b i.front i.turn i.front_is i.stands in
+            let u = onto i.tree_a i.tree_b i.stands in
             record { meets = meets_same h.meets d.kept l; here = at_tree i u.tree u.stands }
 
         pub side_code : {path'' : List ℤ} {z : Bool} → Did o t path' path'' depth e z → Did o t path path'' depth c z
         side_code {path''} {z} k = record {
           kept = kept_both d.kept k.kept;
-          told = λ q A B f j w pi ef ej st.
+          told = λ A B w pi st.
               let r = as_row low st in
-              let u = onto q A B f j ef st in
-              subst (λ w. Decides z (Differs q its A B f j (cell_at path depth) w)) (sym (r.is ∙ ap (λ p. node p r.front r.back) (sym r.row.plane)))
-              (u.told (subst (λ e. Decides z (Differs q its A B f j e u.tree)) (sym same_cell) (k.told q A B f j u.tree pi ef ej u.stands)));
+              let u = onto A B st in
+              subst (λ w. Decides z (Differs q' its A B f' j' (cell_at path depth) w)) (sym (r.is ∙ ap (λ p. node p r.front r.back) (sym r.row.plane)))
+              (u.told (subst (λ e. Decides z (Differs q' its A B f' j' e u.tree)) (sym same_cell) (k.told A B u.tree pi u.stands)));
         }
 
   -- at a mark
-  module _ (high : 65534 ≤ c) where
-    pub follow_in : FollowIn t c
-    follow_in =
-        let i = h.here in
-        let u = as_mark high i.stands in
-        record { operation = i.operation; front = i.front; turn = i.turn; met = u.met; op_is = i.pair_is.op_is; front_is = i.front_is; turn_is = i.turn_is; met_is = u.code_is }
+  module _ (m : marks.Mark) (is : c ≡ mark_code m) where
+    -- a leaf is told by what follows it
+    told_leaf : {z : Bool} (A B w : Tree) → StandsIn o t.above c w → Decides z (After (operate q') its A B f' j' (cell_at path depth) (mark_of m)) → Decides z (Differs q' its A B f' j' (cell_at path depth) w)
+    told_leaf {z} A B w st k = subst (λ w. Decides z (Differs q' its A B f' j' (cell_at path depth) w)) (sym (as_leaf m is st)) (leaf_told its (taken f') (After (operate q') its A B f' j') k)
 
-    module _ {y : Next} (g : FollowTold t c y) where
-      -- a leaf is told by what follows it
-      told_leaf : {z : Bool} (q : Operation) (A B : Tree) (f j : Option Mark) (w : Tree) → PairIs o t.pair q A B → t.front ≡ front_code f → t.mark ≡ turn_code j → StandsIn o t.mark c w
-          → ((x : Mark) → Follows q t f j x y → Decides z (After (operate q) its A B f j (cell_at path depth) x)) → Decides z (Differs q its A B f j (cell_at path depth) w)
-      told_leaf {z} q A B f j w pi ef ej st k =
-          let u = as_mark high st in
-          subst (λ w. Decides z (Differs q its A B f j (cell_at path depth) w)) (sym u.is) (leaf_told its (taken f) (After (operate q) its A B f j) (k u.met (g q f j u.met pi.op_is ef ej u.code_is)))
-
+    module _ {y : Next} (g : Follows t m y) where
       pub side_end : {z : Bool} → y ≡ Done z → Did o t path path depth c z
-      side_end {z} e = record { kept = same_rows; told = λ q A B f j w pi ef ej st. told_leaf q A B f j w pi ef ej st (λ x k. by q A B (subst (Follows q t f j x) e k)) }
+      side_end {z} e = record { kept = same_rows; told = λ A B w pi st. told_leaf A B w st (by A B (subst (Follows t m) e g)) }
         where
-          by : (q : Operation) (A B : Tree) {f j : Option Mark} {x : Mark} → Follows q t f j x (Done z) → Decides z (After (operate q) its A B f j (cell_at path depth) x)
-          by q A B (at_end f a x k) = k
+          by : (A B : Tree) → Follows t m (Done z) → Decides z (After (operate q') its A B f' j' (cell_at path depth) (mark_of m))
+          by A B (at_end {a = a} {f = v} ea ef k) =
+              subst (λ j. Decides z (After (operate q') its A B f' j (cell_at path depth) (mark_of m))) (sym (ap above_of ea))
+              (subst (λ f. Decides z (After (operate q') its A B f (some (mark_of a)) (cell_at path depth) (mark_of m))) (sym (ap above_of ef)) k)
 
       module _ {u : Stage} {root : ℕ} (e : y ≡ Walk u root) where
-        b_stands : {n : ℕ} {B : Tree} (x : Mark) → Stands ys o.numbers.now o.b.now 64 n B → StandsIn o (number (mark x)) n B
-        b_stands {n} {B} x s =
-            let m = number (mark x) in
-            let d : m ≡ 0 → ⊥ = λ z. omega (arith, z, (mark_in x refl).0) in
-            subst (λ k. Stands ys o.numbers.now (rows_of m o.a.now o.b.now) k n B) (offset_b m d) (subst (λ l. Stands ys o.numbers.now l 64 n B) (in_b m o.a.now o.b.now d) s)
-
-        walks : Follows h.here.operation t h.here.front h.here.turn (as_mark high h.here.stands).met (Walk u root)
-        walks =
-            let i = h.here in
-            let q = as_mark high i.stands in
-            subst (Follows i.operation t i.front i.turn q.met) e (g i.operation i.front i.turn q.met i.pair_is.op_is i.front_is i.turn_is q.code_is)
+        walks : Follows t m (Walk u root)
+        walks = subst (Follows t m) e g
 
         pub walk_in : SideIn o u path depth root
         walk_in = by walks
           where
-            by : {f j : Option Mark} {x : Mark} {u : Stage} {root : ℕ} → Follows h.here.operation t f j x (Walk u root) → SideIn o u path depth root
-            by (to_b f x) = let i = h.here in record { meets = h.meets; here = record { operation = i.operation; tree_a = i.tree_a; tree_b = i.tree_b; pair_is = i.pair_is; front = f; front_is = refl; turn = some x; turn_is = refl; tree = i.tree_b; stands = b_stands x i.pair_is.second_stands } }
-            by (to_backs m x) = let i = h.here in record { meets = h.meets; here = record { operation = i.operation; tree_a = i.tree_a; tree_b = i.tree_b; pair_is = i.pair_is; front = some (operate i.operation m x); front_is = refl; turn = none; turn_is = refl; tree = i.tree_a; stands = i.pair_is.first_stands } }
+            by : {u : Stage} {root : ℕ} → Follows t m (Walk u root) → SideIn o u path depth root
+            by (to_b i) = let h' = h.here in record { meets = h.meets; here = record { tree_a = h'.tree_a; tree_b = h'.tree_b; pair_is = h'.pair_is; tree = h'.tree_b; stands = h'.pair_is.second_stands } }
+            by (to_backs ea ef ev) = let h' = h.here in record { meets = h.meets; here = record { tree_a = h'.tree_a; tree_b = h'.tree_b; pair_is = h'.pair_is; tree = h'.tree_a; stands = h'.pair_is.first_stands } }
 
         pub next_falls : left u + rank root < left t
-        next_falls = walk_falls h.here.front_is h.here.turn_is (code_small walk_in.here.stands) walks
+        next_falls = walk_falls (code_small walk_in.here.stands) walks
 
         pub side_walk : {path' : List ℤ} {z : Bool} → Did o u path path' depth root z → Did o t path path' depth c z
-        side_walk {path'} {z} d = record { kept = d.kept; told = λ q A B f j w pi ef ej st. told_leaf q A B f j w pi ef ej st (λ x k. by q A B pi d (subst (Follows q t f j x) e k)) }
+        side_walk {path'} {z} d = record { kept = d.kept; told = λ A B w pi st. told_leaf A B w st (by A B pi d walks) }
           where
-            by : (q : Operation) (A B : Tree) {f j : Option Mark} {x : Mark} {u : Stage} {root : ℕ} → PairIs o t.pair q A B → Did o u path path' depth root z → Follows q t f j x (Walk u root)
-                → Decides z (After (operate q) its A B f j (cell_at path depth) x)
-            by q A B pi d (to_b none x) = d.told q A B none (some x) B pi refl refl (b_stands x pi.second_stands)
-            by q A B pi d (to_b (some f) x) = d.told q A B (some f) (some x) B pi refl refl (b_stands x pi.second_stands)
-            by q A B pi d (to_backs m x) = d.told q A B (some (operate q m x)) none A pi refl refl pi.first_stands
+            by : {u : Stage} {root : ℕ} (A B : Tree) → PairIs o t.pair A B → Did o u path path' depth root z → Follows t m (Walk u root) → Decides z (After (operate q') its A B f' j' (cell_at path depth) (mark_of m))
+            by A B pi d (to_b i) = subst (λ j. Decides z (After (operate q') its A B f' j (cell_at path depth) (mark_of m))) (sym (ap above_of i)) (below t.front d)
+              where
+                below : (f : std.Option marks.Mark) → Did o (staged t (Some m) f) path path' depth t.pair.br z → Decides z (After (operate q') its A B (above_of f) none (cell_at path depth) (mark_of m))
+                below None d = d.told A B B pi pi.second_stands
+                below (Some f) d = d.told A B B pi pi.second_stands
+            by A B pi d (to_backs {a = a} {v = v} ea ef ev) =
+                subst (λ j. Decides z (After (operate q') its A B f' j (cell_at path depth) (mark_of m))) (sym (ap above_of ea))
+                (subst (λ f. Decides z (After (operate q') its A B f (some (mark_of a)) (cell_at path depth) (mark_of m))) (sym (ap above_of ef))
+                (subst (λ n. Decides z (Differs q' its A B (some n) none (cell_at path depth) A)) ev (d.told A B A pi pi.first_stands)))

@@ -18,13 +18,12 @@ use lib.Seq.{get_or-set_same, get_or-set_other, get_or-take, length-take-le}
 use Rattle.whole.specs.Members.{◌∈◌, in_either}
 use Rattle.scope.specs.Planes.{Plane}
 use Rattle.scope.specs.Solids.{Tree, planes}
-use Rattle.scope.specs.Cells.{Operation, operate}
-use Rattle.scope.specs.Normal.{Space, both, Boundary}
+use Rattle.scope.specs.Normal.{Space, Boundary}
 use Rattle.tables.specs.Rows.{plane_at}
 use Rattle.walks.specs.declared.rows.Operands.{Operands}
 use Rattle.walks.specs.Standing.{list}
 use Rattle.borders.specs.declared.Pair.{Pair}
-use Rattle.borders.specs.Bounded.{PairIs, listed, Bounded}
+use Rattle.borders.specs.Bounded.{PairIs, pair_space, listed, Bounded}
 use Rattle.borders.specs.Borders.{Members, BoundaryIn, BoundaryTold, BordersIn, BordersTold}
 use Rattle.borders.proofs.Rows.{list_length, member_row, own_row, stands_planes}
 
@@ -94,11 +93,11 @@ pub record Listing (o : Operands) (pair : Pair) (path₀ : List ℤ) (boundary�
   pub inside : i ≤ length o.planes.now / 4
   pub path_long : length path ≡ length path₀
   pub boundary_long : length boundary ≡ length boundary₀
-  pub so_far : (q : Operation) (A B : Tree) → PairIs o pair q A B → Members o.planes.now A B → SoFar (both (operate q) A B) o.planes.now boundary k i
+  pub so_far : (A B : Tree) → PairIs o pair A B → Members o.planes.now A B → SoFar (pair_space pair A B) o.planes.now boundary k i
 
 module _ {o : Operands} {pair : Pair} {path₀ : List ℤ} {boundary₀ : List ℕ} (h : BordersIn o pair path₀ boundary₀) where
   pub listing_none : Listing o pair path₀ boundary₀ path₀ boundary₀ 0 0
-  listing_none = record { few = omega arith; inside = omega arith; path_long = refl; boundary_long = refl; so_far = λ q A B pi ms. so_far_none }
+  listing_none = record { few = omega arith; inside = omega arith; path_long = refl; boundary_long = refl; so_far = λ A B pi ms. so_far_none }
 
   module _ {path : List ℤ} {boundary : List ℕ} {k i : ℕ} (l : Listing o pair path₀ boundary₀ path boundary k i) where
     module _ (more : i < length o.planes.now / 4) where
@@ -108,7 +107,6 @@ module _ {o : Operands} {pair : Pair} {path₀ : List ℤ} {boundary₀ : List �
           record {
             grounds = record { lawful = g.lawful; few = g.few; path_room = omega (arith, l.path_long, g.path_room) };
             own = own_row h.order i (omega (arith, more, list_length o.planes.now));
-            operation = h.operation;
             tree_a = h.tree_a;
             tree_b = h.tree_b;
             pair_is = h.pair_is;
@@ -124,8 +122,8 @@ module _ {o : Operands} {pair : Pair} {path₀ : List ℤ} {boundary₀ : List �
           inside = omega (arith, more);
           path_long = ep ∙ l.path_long;
           boundary_long = ap length eb ∙ length-set boundary k i ∙ l.boundary_long;
-          so_far = λ q A B pi ms.
-              rw (eb, ek) (listed_on room_in.0 (l.so_far q A B pi ms) ((t q A B pi ms).0 e));
+          so_far = λ A B pi ms.
+              rw (eb, ek) (listed_on room_in.0 (l.so_far A B pi ms) ((t A B pi ms).0 e));
         }
 
         pub listing_miss : z ≡ false → boundary' ≡ boundary → k' ≡ k → Listing o pair path₀ boundary₀ path' boundary' k' (i + 1)
@@ -134,8 +132,8 @@ module _ {o : Operands} {pair : Pair} {path₀ : List ℤ} {boundary₀ : List �
           inside = omega (arith, more);
           path_long = ep ∙ l.path_long;
           boundary_long = ap length eb ∙ l.boundary_long;
-          so_far = λ q A B pi ms.
-              rw (eb, ek) (passed_on (l.so_far q A B pi ms) (not_from_Decides z (t q A B pi ms) e));
+          so_far = λ A B pi ms.
+              rw (eb, ek) (passed_on (l.so_far A B pi ms) (not_from_Decides z (t A B pi ms) e));
         }
 
     pub listing_all : length o.planes.now / 4 ≤ i → BordersTold o pair boundary k
@@ -143,6 +141,6 @@ module _ {o : Operands} {pair : Pair} {path₀ : List ℤ} {boundary₀ : List �
         let e : i ≡ length (list o.planes.now) = omega (arith, end, l.inside, list_length o.planes.now) in
         record {
           few = omega (arith, e, l.few);
-          bounded = λ q A B pi ms. so_far_all (omega (arith, e, l.few, l.boundary_long, h.room, h.grounds.few)) (subst (SoFar (both (operate q) A B) o.planes.now boundary k) e (l.so_far q A B pi ms))
+          bounded = λ A B pi ms. so_far_all (omega (arith, e, l.few, l.boundary_long, h.room, h.grounds.few)) (subst (SoFar (pair_space pair A B) o.planes.now boundary k) e (l.so_far A B pi ms))
               (λ p m. elim (in_either (planes A) (planes B) m) [ inl j ↦ stands_planes pi.first_stands p j | inr j ↦ stands_planes pi.second_stands p j ]);
         }

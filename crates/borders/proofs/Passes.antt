@@ -9,7 +9,7 @@ use Prim.Native.Nat.{ℕ, ◌+◌, ◌*◌}
 use native.Mathlib.Omega.{arith}
 use lib.IntN.{ℤ}
 use lib.ListN.{get_or}
-use Rattle.std.specs.Prelude.{Option, Some, None, is_none}
+use Rattle.std.specs.Prelude.{Option, Some, None}
 use Rattle.scope.specs.Planes.{Plane, Lawful}
 use Rattle.scope.specs.Solids.{place}
 use Rattle.scope.specs.Cells.{Cuts}
@@ -17,15 +17,17 @@ use Rattle.theory.specs.Cells.Path.{on_kept_few}
 use Rattle.planes.specs.Values.{plane}
 use Rattle.planes.specs.declared.Plane as struct
 use Rattle.tables.specs.Rows.{plane_at}
+use Rattle.walks.specs.declared.operations.Mark as marks
 use Rattle.walks.specs.declared.rows.Operands.{Operands}
 use Rattle.walks.specs.Standing.{list, walked, number_at}
+use Rattle.walks.specs.Marks.{above_of}
 use Rattle.borders.specs.declared.Stage.{Stage}
 use Rattle.borders.specs.declared.Parted.{Parted}
 use Rattle.borders.specs.declared.Parted.TheVariants as parted
-use Rattle.borders.specs.Sides.{cell_at, own_field, plane_of, Parts, PartsIn, PartsTold, Passes, PassIn, PassTold}
+use Rattle.borders.specs.Sides.{cell_at, taken, own_field, plane_of, Parts, PartsIn, PartsTold, Passes, PassIn, PassTold}
 use Rattle.borders.proofs.Paths.{rows_ranged}
 
-own_passes : {p q : Plane} (n : Option ℕ) {c : List Plane} (ns : List ℕ) (r : ℕ) → q ≡ p → Passes p q (is_none n) c (get_or ns (3 * r + 1) 0) (get_or ns (3 * r + 2) 0) (Some (get_or ns (3 * r + own_field n) 0))
+own_passes : {p q : Plane} (n : Option marks.Mark) {c : List Plane} (ns : List ℕ) (r : ℕ) → q ≡ p → Passes p q (taken (above_of n)) c (get_or ns (3 * r + 1) 0) (get_or ns (3 * r + 2) 0) (Some (get_or ns (3 * r + own_field n) 0))
 own_passes None ns r d = Passes.own_front d refl
 own_passes (Some n) ns r d = Passes.own_back d refl
 
@@ -37,7 +39,7 @@ module _ {o : Operands} {t : Stage} {path : List ℤ} {depth r : ℕ} (h : PassI
   other = plane_of o t r
 
   abbrev ns : List ℕ
-  ns = walked o t.mark
+  ns = walked o t.above
 
   abbrev front : ℕ
   front = get_or ns (3 * r + 1) 0
@@ -45,11 +47,11 @@ module _ {o : Operands} {t : Stage} {path : List ℤ} {depth r : ℕ} (h : PassI
   abbrev back : ℕ
   back = get_or ns (3 * r + 2) 0
 
-  module _ {n : ℕ} (en : n ≡ number_at o t.mark r) where
+  module _ {n : ℕ} (en : n ≡ number_at o t.above r) where
     pub own_told : n ≡ t.plane → {e : ℕ} → e ≡ get_or ns (3 * r + own_field t.front) 0 → PassTold o t path path depth r (Some e)
     own_told d i = record {
       kept = record { rows = λ i l. refl };
-      passes = subst (λ e. Passes own other (is_none t.front) (cell_at path depth) front back (Some e)) (sym i) (own_passes t.front ns r (ap (plane_at o.planes.now) (sym en ∙ d)));
+      passes = subst (λ e. Passes own other (taken (above_of t.front)) (cell_at path depth) front back (Some e)) (sym i) (own_passes t.front ns r (ap (plane_at o.planes.now) (sym en ∙ d)));
     }
 
     -- a plane has one number
@@ -79,23 +81,23 @@ module _ {o : Operands} {t : Stage} {path : List ℤ} {depth r : ℕ} (h : PassI
         parts : {y : Parted} → z ≡ y → Parts own other (cell_at path depth) y
         parts {y} e = subst (Parts own other (cell_at path depth)) e (subst (λ p. Parts p other (cell_at path depth) z) ep (subst (λ q. Parts (plane p) q (cell_at path depth) z) other_is k.parts))
 
-        told : {y : Option ℕ} → Passes own other (is_none t.front) (cell_at path depth) front back y → PassTold o t path path' depth r y
+        told : {y : Option ℕ} → Passes own other (taken (above_of t.front)) (cell_at path depth) front back y → PassTold o t path path' depth r y
         told y = record { kept = k.kept; passes = y }
 
         pub told_front : z ≡ parted.Front → {e : ℕ} → e ≡ front → PassTold o t path path' depth r (Some e)
-        told_front f {e} i = told (subst (λ e. Passes own other (is_none t.front) (cell_at path depth) front back (Some e)) (sym i) (by (parts f)))
+        told_front f {e} i = told (subst (λ e. Passes own other (taken (above_of t.front)) (cell_at path depth) front back (Some e)) (sym i) (by (parts f)))
           where
-            by : {c : List Plane} → Parts own other c parted.Front → Passes own other (is_none t.front) c front back (Some front)
+            by : {c : List Plane} → Parts own other c parted.Front → Passes own other (taken (above_of t.front)) c front back (Some front)
             by (Parts.in_front x y) = Passes.in_front (apart d) x y
 
         pub told_behind : z ≡ parted.Behind → {e : ℕ} → e ≡ back → PassTold o t path path' depth r (Some e)
-        told_behind f {e} i = told (subst (λ e. Passes own other (is_none t.front) (cell_at path depth) front back (Some e)) (sym i) (by (parts f)))
+        told_behind f {e} i = told (subst (λ e. Passes own other (taken (above_of t.front)) (cell_at path depth) front back (Some e)) (sym i) (by (parts f)))
           where
-            by : {c : List Plane} → Parts own other c parted.Behind → Passes own other (is_none t.front) c front back (Some back)
+            by : {c : List Plane} → Parts own other c parted.Behind → Passes own other (taken (above_of t.front)) c front back (Some back)
             by (Parts.behind x y) = Passes.behind (apart d) x y
 
         pub told_both : z ≡ parted.Both → PassTold o t path path' depth r None
         told_both f = told (by (parts f))
           where
-            by : {c : List Plane} → Parts own other c parted.Both → Passes own other (is_none t.front) c front back None
+            by : {c : List Plane} → Parts own other c parted.Both → Passes own other (taken (above_of t.front)) c front back None
             by (Parts.both x y) = Passes.both (apart d) x y

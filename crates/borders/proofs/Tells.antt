@@ -24,6 +24,7 @@ use Rattle.polygons.specs.Tables.{rows_down}
 use Rattle.tables.specs.Rows.{plane_at}
 use Rattle.walks.specs.declared.rows.Operands.{Operands}
 use Rattle.walks.specs.Standing.{list}
+use Rattle.walks.specs.Marks.{operation_of}
 use Rattle.cuts.specs.Paths.{CutTold}
 use Rattle.borders.specs.declared.Pair.{Pair}
 use Rattle.borders.specs.declared.Stage.{Stage}
@@ -47,7 +48,7 @@ module _ {o : Operands} {pair : Pair} {path : List ℤ} {i : ℕ} (h : BoundaryI
 
   -- the first stage
   abbrev pub begun : Stage
-  begun = record { pair = pair; plane = i; mark = 0; front = None }
+  begun = record { pair = pair; plane = i; above = None; front = None }
 
   module _ {p : struct.Plane} (e : plane p ≡ own) where
     module _ {r : Option Meeting} (w : CutTold (plane p) (cell_at path 0) r) where
@@ -56,19 +57,20 @@ module _ {o : Operands} {pair : Pair} {path : List ℤ} {i : ℕ} (h : BoundaryI
 
       -- it misses the box
       pub told_missed : is_some r ≡ false → BoundaryTold o pair i false
-      told_missed n q A B pi ms = (λ e. absurd (false≢true e), λ d. absurd (not_from_Decides (is_some r) said n (record { point = d.point; on = d.on; inside = d.inside })))
+      told_missed n A B pi ms = (λ e. absurd (false≢true e), λ d. absurd (not_from_Decides (is_some r) said n (record { point = d.point; on = d.on; inside = d.inside })))
 
       module _ (f : is_some r ≡ true) where
         pub begun_in : SideIn o begun path 0 pair.ar
         begun_in = record {
           meets = record { grounds = h.grounds; own = h.own; on = subst (λ c. OnKept own (list o.planes.now) c 0) (sym (box_at path)) on_none; links = λ i l. absurd (omega (arith, l)); cuts = subst (Cuts own) (sym (box_at path)) (said.0 f) };
-          here = record { operation = h.operation; tree_a = h.tree_a; tree_b = h.tree_b; pair_is = h.pair_is; front = none; front_is = refl; turn = none; turn_is = refl; tree = h.tree_a; stands = h.pair_is.first_stands };
+          here = record { tree_a = h.tree_a; tree_b = h.tree_b; pair_is = h.pair_is; tree = h.tree_a; stands = h.pair_is.first_stands };
         }
 
         pub told_walked : {path' : List ℤ} {z : Bool} → Did o begun path path' 0 pair.ar z → BoundaryTold o pair i z
-        told_walked {z = z} d q A B pi ms =
+        told_walked {z = z} d A B pi ms =
+            let q = operation_of pair.op in
             let l = h.grounds.lawful in
             let a = tree_lawful l pi.first_stands in
             let b = tree_lawful l pi.second_stands in
             let general = both_general l pi.first_stands pi.second_stands in
-            decides_map (four_boundary Lawful decided (operate q) a b general own (ms own h.own.member) (said.0 f)) (boundary_four Lawful decided (operate q) a b general own (ms own h.own.member)) (subst (λ c. Decides z (Differs q own A B none none c A)) (box_at path) (d.told q A B none none A pi refl refl pi.first_stands))
+            decides_map (four_boundary Lawful decided (operate q) a b general own (ms own h.own.member) (said.0 f)) (boundary_four Lawful decided (operate q) a b general own (ms own h.own.member)) (subst (λ c. Decides z (Differs q own A B none none c A)) (box_at path) (d.told A B A pi pi.first_stands))

@@ -2,31 +2,28 @@
 --     leaf_told                       a leaf
 --     front_told, both_told           a row that parts the plane: from its front alone, and from both sides
 --     Leads, leads, leads_falls       a row that is passed on one side, and the code there
---     fronts_is                       the side that is taken
 --     left, walk_falls                the walks that are left: one fewer at the next
 use mathlib.Core.Path.{◌≡◌, refl, ap}
 use mathlib.Core.Bool.{Bool, true, false}
 use Rattle.std.specs.Prelude as std
-use Rattle.std.specs.Prelude.{Decides, Some, None, is_none}
+use Rattle.std.specs.Prelude.{Decides, Some, None}
 use Rattle.std.proofs.lemmas.Bool.Decides.{not_from_Decides}
 use mathlib.Core.List.{List, ◌∷◌}
 use mathlib.Core.Logic.{◌≢◌}
-use mathlib.Core.Option.{Option, none, some}
 use Prim.Native.Nat.{ℕ, ◌+◌, ◌<◌}
 use native.Mathlib.Omega.{arith}
 use lib.IntN.{ℤ}
 use Rattle.whole.specs.Tests.{differ as unlike}
 use Rattle.scope.specs.Planes.{Plane, flip}
-use Rattle.scope.specs.Solids.{Mark, Tree, leaf, node, mark, number}
-use Rattle.scope.specs.Cells.{Cuts, Operation}
+use Rattle.scope.specs.Solids.{Mark, Tree, leaf, node}
+use Rattle.scope.specs.Cells.{Cuts}
 use Rattle.theory.specs.Forms.OnPlane.{Along, stop, same_front, same_back, both_front, both_back, only_front, only_back, at_own, at_other}
 use Rattle.walks.specs.Standing.{Stands}
-use Rattle.walks.specs.Marks.{turn_code}
-use Rattle.walks.proofs.Marks.{mark_in}
-use Rattle.walks.proofs.Rank.{rank, rank_below, base, base_a, base_b}
+use Rattle.walks.specs.declared.operations.Mark as marks
+use Rattle.walks.proofs.Rank.{rank, rank_below, base}
 use Rattle.borders.specs.declared.Stage.{Stage}
 use Rattle.borders.specs.declared.Next.TheVariants.{Walk}
-use Rattle.borders.specs.Sides.{front_code, taken, Passes, Follows, to_b, to_backs}
+use Rattle.borders.specs.Sides.{Passes, Follows, to_b, to_backs}
 use Rattle.borders.proofs.Follows.{decides_map}
 
 -- ---- a tree
@@ -65,18 +62,14 @@ leads_falls (Passes.behind d n y) f g = g
 
 -- ---- the stage
 
-pub fronts_is : {n : std.Option ℕ} (f : Option Mark) → n ≡ front_code f → is_none n ≡ taken f
-fronts_is none e = ap is_none e
-fronts_is (some f) e = ap is_none e
-
 -- four walks are left, and then three, two, one
-abbrev after : std.Option ℕ → ℕ
+abbrev after : std.Option marks.Mark → ℕ
 after None = 20000
 after (Some f) = 0
 
 abbrev pub left : Stage → ℕ
-left t = after t.front + base t.mark
+left t = after t.front + base t.above
 
-pub walk_falls : {o : Operation} {t : Stage} {f k : Option Mark} {x : Mark} {u : Stage} {root : ℕ} → t.front ≡ front_code f → t.mark ≡ turn_code k → (root < 65534 → root < 1000) → Follows o t f k x (Walk u root) → left u + rank root < left t
-walk_falls {t = t} {root = root} ef ek l (to_b f x) = omega (arith, ap after ef, base_a t.mark ek, base_b (number (mark x)) (mark_in x refl).0, rank_below root 1000 l)
-walk_falls {o} {t = t} {root = root} ef ek l (to_backs a x) = omega (arith, ap after ef, base_a 0 refl, rank_below root 1000 l)
+pub walk_falls : {t u : Stage} {m : marks.Mark} {root : ℕ} → (root < 65534 → root < 1000) → Follows t m (Walk u root) → left u + rank root < left t
+walk_falls {root = root} l (to_b e) = omega (arith, ap base e, rank_below root 1000 l)
+walk_falls {root = root} l (to_backs ea ef ev) = omega (arith, ap after ef, rank_below root 1000 l)

@@ -1,24 +1,27 @@
 -- The list of the boundary planes of an operation of two trees.
---     PairIs       an operation of two trees that stand in the operands' tables
+--     PairIs, pair_space   two trees that stand in the operands' tables, and the space of their operation
 --     listed       the plane in a place of the list
 --     Later        a plane in place k or later
 --     Bounded      B.2: the boundary planes, in order
 use Rattle.std.specs.Prelude.{◌≡◌, List, ℕ, ◌≤◌, ◌<◌, ℤ, length, get_or}
 use Rattle.scope.specs.Planes.{Plane}
 use Rattle.scope.specs.Solids.{Tree}
-use Rattle.scope.specs.Cells.{Operation}
-use Rattle.scope.specs.Normal.{Space, Boundary}
-use Rattle.scope.specs.Text.{operation_code}
+use Rattle.scope.specs.Cells.{operate}
+use Rattle.scope.specs.Normal.{Space, both, Boundary}
 use Rattle.tables.specs.Rows.{plane_at}
 use Rattle.walks.specs.declared.rows.Operands.{Operands}
 use Rattle.walks.specs.Standing.{list, Stands}
+use Rattle.walks.specs.Marks.{operation_of}
 use Rattle.borders.specs.declared.Pair.{Pair}
 
 -- A and B stand at their root codes
-pub record PairIs (o : Operands) (t : Pair) (q : Operation) (A B : Tree) : Type 0 where
-  pub op_is : t.op ≡ operation_code q
+pub record PairIs (o : Operands) (t : Pair) (A B : Tree) : Type 0 where
   pub first_stands : Stands o.planes.now o.numbers.now o.a.now 0 t.ar A
   pub second_stands : Stands o.planes.now o.numbers.now o.b.now 64 t.br B
+
+-- the operation of A and B
+abbrev pub pair_space : Pair → Tree → Tree → Space
+pair_space t A B = both (operate (operation_of t.op)) A B
 
 -- bs are numbers of planes in the joined list
 abbrev pub listed : List ℤ → List ℕ → ℕ → Plane

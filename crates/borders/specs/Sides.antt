@@ -1,22 +1,21 @@
 -- The walk on a plane p, in tables: what its functions are given, and what they tell.
 --     cell_at, OnPlane              the cell of the first rows of a path; they are the half-spaces that a walk on p kept
---     front_code, own_field, taken  which side is taken at rows of p itself
+--     own_field, taken              which side is taken at rows of p itself
 --     After, Differs                what is left to be done at a leaf, and below a tree: the marks of the two sides differ at some end
 --     Kept, nowhere                 the rows of a path that a call leaves as they are; the point of a row whose witness is not read
 --     Own, Meets                    p by its number; p and the cell of a path
 --     Parts, PartsIn, PartsTold     on which sides of another plane p has points
 --     plane_of                      the plane of a row
 --     Passes, PassIn, PassTold      how a row is passed
---     FollowIn, staged, Follows, FollowTold   what follows a leaf
+--     staged, Follows               what follows a leaf
 --     Here, SideIn, NodeIn, Did     the walks
 use Rattle.std.specs.Prelude as std
-use Rattle.std.specs.Prelude.{◌≡◌, Bool, true, false, Decides, Some, None, is_none, List, ◌∷◌, ◌++◌, ◌≢◌, ℕ, ◌+◌, ◌*◌, ◌≤◌, ◌<◌, ℤ, pos, length, get_or}
+use Rattle.std.specs.Prelude.{◌≡◌, Bool, true, false, Decides, Some, None, List, ◌∷◌, ◌++◌, ◌≢◌, ℕ, ◌+◌, ◌*◌, ◌≤◌, ◌<◌, ℤ, pos, length, get_or}
 use Rattle.std.proofs.Math.Option.{Option, none, some}
 use Rattle.whole.specs.Members.{◌∈◌}
 use Rattle.scope.specs.Planes.{Plane, flip, in_range, Lawful}
-use Rattle.scope.specs.Solids.{Mark, Tree, mark, number, place}
+use Rattle.scope.specs.Solids.{Mark, Tree, place}
 use Rattle.scope.specs.Cells.{box, Cuts, Operation, operate}
-use Rattle.scope.specs.Text.{operation_code}
 use Rattle.theory.specs.Cells.Path.{OnKept}
 use Rattle.theory.specs.Forms.OnPlane.{Along}
 use Rattle.planes.specs.declared.Meeting.{Meeting}
@@ -25,7 +24,8 @@ use Rattle.cuts.specs.Paths.{Links}
 use Rattle.tables.specs.Rows.{plane_at}
 use Rattle.walks.specs.declared.rows.Operands.{Operands}
 use Rattle.walks.specs.Standing.{offset, list, walked, number_at, RowIs}
-use Rattle.walks.specs.Marks.{turn_code}
+use Rattle.walks.specs.declared.operations.Mark as marks
+use Rattle.walks.specs.Marks.{operation_of, mark_of, above_of}
 use Rattle.walks.specs.Walks.{Ground, StandsIn}
 use Rattle.borders.specs.declared.Stage.{Stage}
 use Rattle.borders.specs.declared.Parted.{Parted}
@@ -68,13 +68,8 @@ pub record Meets (xs : List ℤ) (n : ℕ) (path : List ℤ) (depth : ℕ) : Typ
 
 -- ---- the four walks
 
--- the operation's mark in front of p, if it is known, as the code has it
-abbrev pub front_code : Option Mark → std.Option ℕ
-front_code none = None
-front_code (some f) = Some (number (mark f))
-
 -- p's front while no mark in front of it is known, else its back: the entry of its code in the row
-abbrev pub own_field : std.Option ℕ → ℕ
+abbrev pub own_field : std.Option marks.Mark → ℕ
 own_field None = 1
 own_field (Some f) = 2
 
@@ -124,55 +119,42 @@ pub data Passes (p q : Plane) (s : Bool) (c : List Plane) (f b : ℕ) : std.Opti
 
 -- the plane of a row
 abbrev pub plane_of : Operands → Stage → ℕ → Plane
-plane_of o t r = plane_at o.planes.now (number_at o t.mark r)
+plane_of o t r = plane_at o.planes.now (number_at o t.above r)
 
 pub record PassIn (o : Operands) (t : Stage) (path : List ℤ) (depth : ℕ) (r : ℕ) : Type 0 where
   pub meets : Meets o.planes.now t.plane path depth
   pub plane : Plane
-  pub row : RowIs o.planes.now o.numbers.now (walked o t.mark) (offset t.mark) r plane
+  pub row : RowIs o.planes.now o.numbers.now (walked o t.above) (offset t.above) r plane
 
 pub record PassTold (o : Operands) (t : Stage) (path path' : List ℤ) (depth r : ℕ) (z : std.Option ℕ) : Type 0 where
   pub kept : Kept path path' depth
-  pub passes : Passes (plane_at o.planes.now t.plane) (plane_of o t r) (is_none t.front) (cell_at path depth) (get_or (walked o t.mark) (3 * r + 1) 0) (get_or (walked o t.mark) (3 * r + 2) 0) z
+  pub passes : Passes (plane_at o.planes.now t.plane) (plane_of o t r) (taken (above_of t.front)) (cell_at path depth) (get_or (walked o t.above) (3 * r + 1) 0) (get_or (walked o t.above) (3 * r + 2) 0) z
 
 -- ---- one leaf
 
-pub record FollowIn (t : Stage) (m : ℕ) : Type 0 where
-  pub operation : Operation
-  pub front : Option Mark
-  pub turn : Option Mark
-  pub met : Mark
-  pub op_is : t.pair.op ≡ operation_code operation
-  pub front_is : t.front ≡ front_code front
-  pub turn_is : t.mark ≡ turn_code turn
-  pub met_is : m ≡ number (mark met)
-
 -- the stage with another mark of A's leaf and another mark in front
-abbrev pub staged : Stage → ℕ → std.Option ℕ → Stage
-staged t m f = record { pair = t.pair; plane = t.plane; mark = m; front = f }
+abbrev pub staged : Stage → std.Option marks.Mark → std.Option marks.Mark → Stage
+staged t a f = record { pair = t.pair; plane = t.plane; above = a; front = f }
 
-pub data Follows (o : Operation) (t : Stage) : Option Mark → Option Mark → Mark → Next → Type 0 where
-  to_b : (f : Option Mark) (x : Mark) → Follows o t f none x (next.Walk (staged t (number (mark x)) (front_code f)) t.pair.br)
-  to_backs : (a x : Mark) → Follows o t none (some a) x (next.Walk (staged t 0 (Some (number (mark (operate o a x))))) t.pair.ar)
-  at_end : (f a x : Mark) {z : Bool} → Decides z (f ≢ operate o a x) → Follows o t (some f) (some a) x (next.Done z)
+-- the operation's mark below a leaf of A
+abbrev pub given : Stage → marks.Mark → marks.Mark → Mark
+given t a m = operate (operation_of t.pair.op) (mark_of a) (mark_of m)
 
-abbrev pub FollowTold : Stage → ℕ → Next → Type 0
-FollowTold t m r = (o : Operation) (f k : Option Mark) (x : Mark) → t.pair.op ≡ operation_code o → t.front ≡ front_code f → t.mark ≡ turn_code k → m ≡ number (mark x) → Follows o t f k x r
+-- what follows the mark m of a leaf
+pub data Follows (t : Stage) (m : marks.Mark) : Next → Type 0 where
+  to_b : t.above ≡ None → Follows t m (next.Walk (staged t (Some m) t.front) t.pair.br)
+  to_backs : {a v : marks.Mark} → t.above ≡ Some a → t.front ≡ None → mark_of v ≡ given t a m → Follows t m (next.Walk (staged t None (Some v)) t.pair.ar)
+  at_end : {a f : marks.Mark} {z : Bool} → t.above ≡ Some a → t.front ≡ Some f → Decides z (mark_of f ≢ given t a m) → Follows t m (next.Done z)
 
 -- ---- the walks
 
--- an operation of two trees, where the four walks are, and at which tree
+-- two trees, and at which tree the four walks are
 pub record Here (o : Operands) (t : Stage) (c : ℕ) : Type 0 where
-  pub operation : Operation
   pub tree_a : Tree
   pub tree_b : Tree
-  pub pair_is : PairIs o t.pair operation tree_a tree_b
-  pub front : Option Mark
-  pub front_is : t.front ≡ front_code front
-  pub turn : Option Mark
-  pub turn_is : t.mark ≡ turn_code turn
+  pub pair_is : PairIs o t.pair tree_a tree_b
   pub tree : Tree
-  pub stands : StandsIn o t.mark c tree
+  pub stands : StandsIn o t.above c tree
 
 pub record SideIn (o : Operands) (t : Stage) (path : List ℤ) (depth : ℕ) (c : ℕ) : Type 0 where
   pub meets : Meets o.planes.now t.plane path depth
@@ -188,4 +170,4 @@ pub record NodeIn (o : Operands) (t : Stage) (path : List ℤ) (depth : ℕ) (r 
 
 pub record Did (o : Operands) (t : Stage) (path path' : List ℤ) (depth c : ℕ) (r : Bool) : Type 0 where
   pub kept : Kept path path' depth
-  pub told : (q : Operation) (A B : Tree) (f k : Option Mark) (w : Tree) → PairIs o t.pair q A B → t.front ≡ front_code f → t.mark ≡ turn_code k → StandsIn o t.mark c w → Decides r (Differs q (plane_at o.planes.now t.plane) A B f k (cell_at path depth) w)
+  pub told : (A B w : Tree) → PairIs o t.pair A B → StandsIn o t.above c w → Decides r (Differs (operation_of t.pair.op) (plane_at o.planes.now t.plane) A B (above_of t.front) (above_of t.above) (cell_at path depth) w)

@@ -10,26 +10,26 @@ ghost use Rattle.borders.specs.Borders.{BoundaryIn, BoundaryTold, BordersIn, Bor
 use cuts::cut;
 use polygons::Room;
 use sides::side_on;
-use walks::{IN_A, Operands};
+use walks::{Mark, Operands, Operation};
 
 // ---- the kinds
 
 // What is put into normal form: an operation, and the root codes of A and of B.
 #[derive(Clone, Copy)]
 pub struct Pair {
-    pub op: u8,
+    pub op: Operation,
     pub ar: u16,
     pub br: u16,
 }
 
-// Where a walk on a plane is: what is walked, the plane's number in the joined list, the mark of the leaf of A above it, or 0 in A, and
-// the mark of the operation in front of the plane, or None while fronts are taken.
+// Where a walk on a plane is: what is walked, the plane's number in the joined list, in B the mark of the leaf of A above it, and the
+// operation's mark in front of the plane, or None while fronts are taken.
 #[derive(Clone, Copy)]
 pub struct Stage {
     pub pair: Pair,
     pub plane: u16,
-    pub mark: u16,
-    pub front: Option<u16>,
+    pub above: Option<Mark>,
+    pub front: Option<Mark>,
 }
 
 // How a row's plane lies to another plane in a cell: that plane has points in front only, behind only, or on both sides.
@@ -61,7 +61,7 @@ fn is_boundary(o: &Operands, pair: Pair, path: &mut [i64], room: &mut Room, i: u
     let t = Stage {
         pair,
         plane: i as u16,
-        mark: IN_A,
+        above: None,
         front: None,
     };
     side_on(o, t, path, 0, room, pair.ar)

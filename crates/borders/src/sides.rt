@@ -7,15 +7,14 @@ ghost use Rattle.std.specs.Prelude.{◌≡◌, ◌+◌, ◌*◌, ◌<◌, ◌≤
 ghost use Rattle.planes.specs.Values.{plane};
 ghost use Rattle.cells.specs.Paths.{PathIn, Pushed};
 ghost use Rattle.walks.specs.Standing.{walked};
-ghost use Rattle.borders.specs.Sides.{nowhere, own_field, PartsIn, PartsTold, PassIn, PassTold, FollowIn, FollowTold, SideIn, NodeIn, Did};
+ghost use Rattle.borders.specs.Sides.{nowhere, own_field, PartsIn, PartsTold, PassIn, PassTold, Follows, SideIn, NodeIn, Did};
 
 use crate::{Next, Parted, Stage};
 use cells::{opposite, push};
 use cuts::cut;
 use planes::{Meeting, Plane};
 use polygons::Room;
-use tables::Solid;
-use walks::{IN_A, Operands, operated};
+use walks::{Code, Mark, Operands};
 
 // ---- a row and the plane
 
@@ -55,12 +54,12 @@ fn parted(p: Plane, q: Plane, path: &mut [i64], depth: usize, room: &mut Room) -
 
 // The code on the side that is taken at a row of the plane itself: its front in the first two walks, then its back.
 fn own_side(o: &Operands, t: Stage, row: u16) -> u16
-    requires { 3 * row + 2 < length (walked o.now t.mark) }
-    ensures { result ≡ get_or (walked o.now t.mark) (3 * row + own_field t.front) 0 }
+    requires { 3 * row + 2 < length (walked o.now t.above) }
+    ensures { result ≡ get_or (walked o.now t.above) (3 * row + own_field t.front) 0 }
 {
     match t.front {
-        None => o.front(t.mark, row),
-        Some(_) => o.back(t.mark, row),
+        None => o.front(t.above, row),
+        Some(_) => o.back(t.above, row),
     }
 }
 
@@ -76,14 +75,14 @@ fn pass(
     requires { PassIn o.now t path.old depth row }
     ensures { PassTold o.now t path.old path.new depth row result }
 {
-    let n = o.number_of(t.mark, row);
+    let n = o.number_of(t.above, row);
     if n == t.plane {
         return Some(own_side(o, t, row));
     }
     let p = tables::row(o.planes, t.plane as usize);
     match parted(p, tables::row(o.planes, n as usize), path, depth, room) {
-        Parted::Front => Some(o.front(t.mark, row)),
-        Parted::Behind => Some(o.back(t.mark, row)),
+        Parted::Front => Some(o.front(t.above, row)),
+        Parted::Behind => Some(o.back(t.above, row)),
         Parted::Both => None,
     }
 }
@@ -91,19 +90,22 @@ fn pass(
 // ---- the four walks
 
 // What follows the mark m of a leaf: B below a leaf of A; below a leaf of B the walk of A that takes backs, or the end.
-fn followed(t: Stage, m: u16) -> Next
-    requires { FollowIn t m }
-    ensures { FollowTold t m result }
+fn followed(t: Stage, m: Mark) -> Next
+    ensures { Follows t m result }
 {
-    if t.mark == IN_A {
-        return Next::Walk(Stage { mark: m, ..t }, t.pair.br);
-    }
-    let o = operated(t.pair.op, t.mark, m);
+    let Some(a) = t.above else {
+        let u = Stage {
+            above: Some(m),
+            ..t
+        };
+        return Next::Walk(u, t.pair.br);
+    };
+    let o = t.pair.op.mark(a, m);
     match t.front {
         Some(f) => Next::Done(f != o),
         None => {
             let u = Stage {
-                mark: IN_A,
+                above: None,
                 front: Some(o),
                 ..t
             };
@@ -125,13 +127,13 @@ fn node_on(
     requires { NodeIn o.now t path.old depth row }
     ensures { Did o.now t path.old path.new depth row result }
 {
-    let h = o.plane_of(t.mark, row);
-    let f = o.front(t.mark, row);
+    let h = o.plane_of(t.above, row);
+    let f = o.front(t.above, row);
     keep(path, depth, h);
     if side_on(o, t, path, depth + 1, room, f) {
         return true;
     }
-    let g = o.back(t.mark, row);
+    let g = o.back(t.above, row);
     keep(path, depth, opposite(h));
     side_on(o, t, path, depth + 1, room, g)
 }
@@ -150,14 +152,14 @@ pub fn side_on(
     requires { SideIn o.now t path.old depth code }
     ensures { Did o.now t path.old path.new depth code result }
 {
-    if code < Solid::OUT {
-        return match pass(o, t, path, depth, room, code) {
-            None => node_on(o, t, path, depth, room, code),
+    match Code::from(code) {
+        Code::Row(row) => match pass(o, t, path, depth, room, row) {
+            None => node_on(o, t, path, depth, room, row),
             Some(child) => side_on(o, t, path, depth, room, child),
-        };
-    }
-    match followed(t, code) {
-        Next::Done(told) => told,
-        Next::Walk(u, root) => side_on(o, u, path, depth, room, root),
+        },
+        Code::Mark(m) => match followed(t, m) {
+            Next::Done(told) => told,
+            Next::Walk(u, root) => side_on(o, u, path, depth, room, root),
+        },
     }
 }

@@ -11,9 +11,8 @@ use lib.IntN.{ℤ}
 use lib.ListN.{length, take}
 use Rattle.std.specs.Prelude.{Ok}
 use Rattle.scope.specs.Solids.{Tree}
-use Rattle.scope.specs.Cells.{box, Operation, operate}
-use Rattle.scope.specs.Normal.{both, Normal}
-use Rattle.scope.specs.Text.{operation_code}
+use Rattle.scope.specs.Cells.{box, operate}
+use Rattle.scope.specs.Normal.{Normal}
 use Rattle.theory.specs.Theorems.{form_both}
 use Rattle.theory.specs.Forms.Normal.{normal_planes}
 use Rattle.tables.specs.declared.LentSolid.{LentSolid}
@@ -22,24 +21,26 @@ use Rattle.cells.specs.Paths.{at_box}
 use Rattle.lists.specs.declared.JoinedList.{JoinedList}
 use Rattle.lists.specs.Lists.{JoinTold}
 use Rattle.walks.specs.declared.rows.Operands.{Operands}
+use Rattle.walks.specs.declared.operations.Operation as operations
+use Rattle.walks.specs.Marks.{operation_of}
 use Rattle.walks.specs.Putting.{Walked}
 use Rattle.borders.specs.declared.Pair.{Pair}
-use Rattle.borders.specs.Bounded.{PairIs, Bounded}
+use Rattle.borders.specs.Bounded.{PairIs, pair_space, Bounded}
 use Rattle.borders.specs.Borders.{BordersIn, BordersTold}
 use Rattle.splits.specs.Splits.{Given, CellIn, Formed}
 use Rattle.results.specs.Putting.{InOrder, RowsOf, PutIn}
 use Rattle.results.specs.Operands.{SoundIn}
 use Rattle.results.proofs.Operands.{stands_a, stands_b, joined_in_order, joined_has, joined_from, both_rows, ground_in}
 
-module _ {op : ℕ} {a b : LentSolid} {xs : List ℤ} {ns : List ℕ} {path : List ℤ} (h : SoundIn op a b xs ns path) {l : JoinedList} (j : JoinTold a.planes.now b.planes.now l) (list : Bor (List ℤ)) (e : list.now ≡ take (4 * l.count) l.planes) (numbers : Bor (List ℕ)) (f : numbers.now ≡ l.numbers) where
+module _ (op : operations.Operation) {a b : LentSolid} {xs : List ℤ} {ns : List ℕ} {path : List ℤ} (h : SoundIn a b xs ns path) {l : JoinedList} (j : JoinTold a.planes.now b.planes.now l) (list : Bor (List ℤ)) (e : list.now ≡ take (4 * l.count) l.planes) (numbers : Bor (List ℕ)) (f : numbers.now ≡ l.numbers) where
   abbrev rows : Operands
   rows = both_rows a b list numbers
 
   abbrev pair : Pair
   pair = record { op = op; ar = a.root; br = b.root }
 
-  pair_is : {o : Operation} {A B : Tree} → op ≡ operation_code o → SolidOf a.planes.now a.nodes.now a.root A → SolidOf b.planes.now b.nodes.now b.root B → PairIs rows pair o A B
-  pair_is eo u v = record { op_is = eo; first_stands = stands_a u v j e f; second_stands = stands_b u v j e f }
+  pair_is : {A B : Tree} → SolidOf a.planes.now a.nodes.now a.root A → SolidOf b.planes.now b.nodes.now b.root B → PairIs rows pair A B
+  pair_is u v = record { first_stands = stands_a u v j e f; second_stands = stands_b u v j e f }
 
   order : InOrder list.now
   order = joined_in_order h.first_solid h.second_solid j e f
@@ -48,10 +49,9 @@ module _ {op : ℕ} {a b : LentSolid} {xs : List ℤ} {ns : List ℕ} {path : Li
   borders_in room = record {
     grounds = ground_in h j e refl;
     order = order.order;
-    operation = h.operation;
     tree_a = h.first;
     tree_b = h.second;
-    pair_is = pair_is h.op_is h.first_solid h.second_solid;
+    pair_is = pair_is h.first_solid h.second_solid;
     members = joined_from h.first_solid h.second_solid j e f;
     room = room;
   }
@@ -60,26 +60,26 @@ module _ {op : ℕ} {a b : LentSolid} {xs : List ℤ} {ns : List ℕ} {path : Li
   boundary_few q = omega (arith, q.few, order.few)
 
   module _ {bs' : List ℕ} {k : ℕ} (q : BordersTold rows pair bs' k) {bs : List ℕ} (ek : bs ≡ take k bs') {path' : List ℤ} where
-    box_given : {o : Operation} {A B : Tree} → op ≡ operation_code o → SolidOf a.planes.now a.nodes.now a.root A → SolidOf b.planes.now b.nodes.now b.root B → Given rows bs pair path' 0 0 o A B box
-    box_given {o} {A} {B} eo u v =
-        let p = pair_is eo u v in
-        let d = subst (Bounded (both (operate o) A B) list.now) (sym ek) (q.bounded o A B p (joined_from u v j e f)) in
+    box_given : {A B : Tree} → SolidOf a.planes.now a.nodes.now a.root A → SolidOf b.planes.now b.nodes.now b.root B → Given rows bs pair path' 0 0 A B box
+    box_given {A} {B} u v =
+        let p = pair_is u v in
+        let d = subst (Bounded (pair_space pair A B) list.now) (sym ek) (q.bounded A B p (joined_from u v j e f)) in
         record { stood = record { pair = p; on = at_box }; bounded = d; rest = λ p x y. d.all p x }
 
     pub cell_in : length path' ≡ length path → CellIn rows bs pair path' 0 ns 0 0
-    cell_in ep = record { grounds = ground_in h j e ep; ordered = order.order; operation = h.operation; tree_a = h.first; tree_b = h.second; cell = box; given = box_given h.op_is h.first_solid h.second_solid; room = record { rows = omega arith; few = omega arith } }
+    cell_in ep = record { grounds = ground_in h j e ep; ordered = order.order; tree_a = h.first; tree_b = h.second; cell = box; given = box_given h.first_solid h.second_solid; room = record { rows = omega arith; few = omega arith } }
 
     module _ {path'' : List ℤ} {ns' : List ℕ} {z : Walked} (d : Formed rows bs pair path' path'' 0 ns ns' 0 0 z) (en : length ns' ≡ length ns) where
-      pub form_rows : (o : Operation) (A B s : Tree) → op ≡ operation_code o → SolidOf a.planes.now a.nodes.now a.root A → SolidOf b.planes.now b.nodes.now b.root B → Normal (both (operate o) A B) box s → RowsOf list.now ns ns' z s
-      form_rows o A B s eo u v w = record {
+      pub form_rows : (A B s : Tree) → SolidOf a.planes.now a.nodes.now a.root A → SolidOf b.planes.now b.nodes.now b.root B → Normal (pair_space pair A B) box s → RowsOf list.now ns ns' z s
+      form_rows A B s u v w = record {
         in_order = joined_in_order u v j e f;
-        sub = λ p m. joined_has u v j e f p (normal_planes (both (operate o) A B) w p m).member;
+        sub = λ p m. joined_has u v j e f p (normal_planes (pair_space pair A B) w p m).member;
         zero = h.zeros.nodes_zero;
         long = en;
-        emitted = d.emitted o A B s box (box_given eo u v) w;
+        emitted = d.emitted A B s box (box_given u v) w;
       }
 
     pub put_in : {path'' : List ℤ} {ns' : List ℕ} {root m : ℕ} → Formed rows bs pair path' path'' 0 ns ns' 0 0 (Ok (root, m)) → length ns' ≡ length ns → PutIn list.now xs ns' root m
     put_in d en =
-        let w = form_both (operate h.operation) h.first_solid.lawful h.second_solid.lawful in
-        record { blank = ns; tree = w.0; rows = form_rows d en h.operation h.first h.second w.0 h.op_is h.first_solid h.second_solid w.1; zeros = h.zeros.planes_zero }
+        let w = form_both (operate (operation_of op)) h.first_solid.lawful h.second_solid.lawful in
+        record { blank = ns; tree = w.0; rows = form_rows d en h.first h.second w.0 h.first_solid h.second_solid w.1; zeros = h.zeros.planes_zero }

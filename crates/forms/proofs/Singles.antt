@@ -9,9 +9,8 @@ use lib.IntN.{ℤ}
 use lib.ListN.{length}
 use Rattle.scope.specs.Limits.{stated}
 use Rattle.scope.specs.Solids.{Tree, OUT, leaf, code, post, ascending, tables_of}
-use Rattle.scope.specs.Cells.{box, Operation, union, operate}
+use Rattle.scope.specs.Cells.{box, union, operate}
 use Rattle.scope.specs.Normal.{both, Normal}
-use Rattle.scope.specs.Text.{operation_code}
 use Rattle.scope.specs.Judging.{judge_lent}
 use Rattle.scope.specs.Answers.{flat_planes, flat_nodes, refused, tree_answer, enough_work, solid_refused, formed}
 use Rattle.theory.specs.Theorems.{empty_lawful, form, form_single}
@@ -36,13 +35,13 @@ module _ (a b : LentSolid) (ep : b.planes.now ≡ []) (en : b.nodes.now ≡ []) 
   second_solid : SolidOf b.planes.now b.nodes.now b.root (leaf OUT)
   second_solid = subst (λ t. t) (λ i. SolidOf (sym ep i) (sym en i) (sym er i) (leaf OUT)) empty_solid
 
-  pub single_in : {xs : List ℤ} {ns : List ℕ} {path : List ℤ} → SingleIn a xs ns path → SoundIn 1 a b xs ns path
-  single_in h = record { operation = union; op_is = refl; first = h.tree; first_solid = h.solid; second = leaf OUT; second_solid = second_solid; zeros = h.zeros; path_room = h.path_room }
+  pub single_in : {xs : List ℤ} {ns : List ℕ} {path : List ℤ} → SingleIn a xs ns path → SoundIn a b xs ns path
+  single_in h = record { first = h.tree; first_solid = h.solid; second = leaf OUT; second_solid = second_solid; zeros = h.zeros; path_room = h.path_room }
 
 -- an operation of a solid and the empty solid is told
 pub single_told : (a : LentSolid) (xs : List ℤ) {xs' : List ℤ} (ns : List ℕ) {ns' : List ℕ} {r : Result Solid ℕ}
-    → ((o : Operation) (A B s : Tree) → 1 ≡ operation_code o → SolidOf a.planes.now a.nodes.now a.root A → SolidOf [] [] 65534 B → Normal (both (operate o) A B) box s → Outcome (tree_answer (rooms xs ns) s) xs' ns' r) → SingleTold a xs xs' ns ns' r
-single_told a xs ns f A s u n = f union A (leaf OUT) s refl u empty_solid (form_single u.lawful n)
+    → ((A B s : Tree) → SolidOf a.planes.now a.nodes.now a.root A → SolidOf [] [] 65534 B → Normal (both (operate union) A B) box s → Outcome (tree_answer (rooms xs ns) s) xs' ns' r) → SingleTold a xs xs' ns ns' r
+single_told a xs ns f A s u n = f A (leaf OUT) s u empty_solid (form_single u.lawful n)
 
 -- ---- the way to the answer
 

@@ -5,7 +5,6 @@ use Rattle.std.specs.Prelude.{◌≡◌, List, ℕ, ◌≤◌, ℤ, length, Resu
 use Rattle.scope.specs.Solids.{Tree}
 use Rattle.scope.specs.Cells.{box, Operation, operate}
 use Rattle.scope.specs.Normal.{both, Normal, NormalForm}
-use Rattle.scope.specs.Text.{operation_code}
 use Rattle.scope.specs.Answers.{tree_answer}
 use Rattle.theory.specs.Text.Lent.{lent}
 use Rattle.tables.specs.declared.LentSolid.{LentSolid}
@@ -18,8 +17,8 @@ NormalTold ap an ar xs xs' ns ns' w w' r = Told (form_of (lent ap an ar)) xs xs'
 
 -- ---- on the way
 
-abbrev pub BothTold : ℕ → LentSolid → LentSolid → List ℤ → List ℤ → List ℕ → List ℕ → Result Solid ℕ → Type 0
-BothTold op a b xs xs' ns ns' r = (o : Operation) (A B s : Tree) → op ≡ operation_code o → SolidOf a.planes.now a.nodes.now a.root A → SolidOf b.planes.now b.nodes.now b.root B → Normal (both (operate o) A B) box s → Outcome (tree_answer (rooms xs ns) s) xs' ns' r
+abbrev pub BothTold : Operation → LentSolid → LentSolid → List ℤ → List ℤ → List ℕ → List ℕ → Result Solid ℕ → Type 0
+BothTold o a b xs xs' ns ns' r = (A B s : Tree) → SolidOf a.planes.now a.nodes.now a.root A → SolidOf b.planes.now b.nodes.now b.root B → Normal (both (operate o) A B) box s → Outcome (tree_answer (rooms xs ns) s) xs' ns' r
 
 -- a solid, tables of zeros, and room for a path
 pub record SingleIn (a : LentSolid) (xs : List ℤ) (ns : List ℕ) (path : List ℤ) : Type 0 where

@@ -7,6 +7,7 @@
 ghost use Rattle.std.specs.Prelude.{◌≤◌, length};
 ghost use Rattle.scope.specs.Limits.{stated};
 ghost use Rattle.refusals.specs.Numbers.{numbered};
+ghost use Rattle.walks.specs.Marks.{operation_of};
 ghost use Rattle.results.specs.Results.{ZerosIn};
 ghost use Rattle.results.specs.Operands.{SoundIn};
 ghost use Rattle.forms.specs.Promises.{BothTold, SingleIn, SingleTold, JudgedTold, NormalTold};
@@ -18,21 +19,21 @@ use refusals::Refusal;
 use results::{give, put_out};
 use splits::form_cell;
 use tables::{LentSolid, Solid, judge_rows};
-use walks::Operands;
+use walks::{Operands, Operation};
 
 // ---- two solids
 
 // The normal form of an operation of two sound solids, put out into tables of zeros.
 fn form_sound(
-    op: u8,
+    op: Operation,
     a: &LentSolid,
     b: &LentSolid,
     planes: &mut [i64],
     nodes: &mut [u16],
     path: &mut [i64],
 ) -> Result<Solid, Refusal>
-    requires { SoundIn op a.now b.now planes.old nodes.old path.old }
-    ensures { BothTold op a.now b.now planes.old planes.new nodes.old nodes.new (numbered result) }
+    requires { SoundIn a.now b.now planes.old nodes.old path.old }
+    ensures { BothTold (operation_of op) a.now b.now planes.old planes.new nodes.old nodes.new (numbered result) }
 {
     let joined = JoinedList::of(a.planes, b.planes);
     let o = Operands {
@@ -55,9 +56,6 @@ fn form_sound(
 
 // ---- a single solid
 
-// The number of the operation union.
-const UNION: u8 = 1;
-
 // The normal form of a sound solid, put out into tables of zeros: that of its union with the empty solid, which has no planes, no nodes and
 // the mark OUT.
 fn form_single(
@@ -74,7 +72,7 @@ fn form_single(
         nodes: &[],
         root: Solid::OUT,
     };
-    form_sound(UNION, a, &empty, planes, nodes, path)
+    form_sound(Operation::Union, a, &empty, planes, nodes, path)
 }
 
 // The normal form of a solid, put out into tables of zeros, or the first refusal: the solid, and then 8.

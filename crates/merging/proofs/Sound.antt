@@ -4,16 +4,14 @@
 --     put_in        and these are put out
 use mathlib.Core.Path.{◌≡◌, refl}
 use mathlib.Core.List.{List}
-use mathlib.Core.Option.{none}
 use Prim.Native.Nat.{ℕ, ◌*◌}
 use native.Mathlib.Omega.{arith}
 use denote.Ref.{Bor}
 use lib.IntN.{ℤ}
 use lib.ListN.{length, take}
-use Rattle.std.specs.Prelude.{Ok}
+use Rattle.std.specs.Prelude.{None, Ok}
 use Rattle.scope.specs.Solids.{Tree}
-use Rattle.scope.specs.Cells.{box, Operation, Merged}
-use Rattle.scope.specs.Text.{operation_code}
+use Rattle.scope.specs.Cells.{box, Merged}
 use Rattle.theory.specs.Theorems.{merge, merge_planes}
 use Rattle.tables.specs.declared.LentSolid.{LentSolid}
 use Rattle.tables.specs.Promises.{SolidOf}
@@ -21,15 +19,17 @@ use Rattle.cells.specs.Paths.{at_box}
 use Rattle.lists.specs.declared.JoinedList.{JoinedList}
 use Rattle.lists.specs.Lists.{JoinTold}
 use Rattle.walks.specs.declared.Turn.{Turn}
+use Rattle.walks.specs.declared.operations.Operation as operations
+use Rattle.walks.specs.Marks.{operation_of}
 use Rattle.walks.specs.Putting.{Walked}
 use Rattle.walks.specs.Walks.{SideIn, Did}
 use Rattle.results.specs.Putting.{RowsOf, PutIn}
 use Rattle.results.specs.Operands.{SoundIn}
 use Rattle.results.proofs.Operands.{stands_a, stands_b, joined_in_order, joined_has, both_rows, ground_in}
 
-module _ {op : ℕ} {a b : LentSolid} {xs : List ℤ} {ns : List ℕ} {path : List ℤ} (h : SoundIn op a b xs ns path) {l : JoinedList} (j : JoinTold a.planes.now b.planes.now l) (list : Bor (List ℤ)) (e : list.now ≡ take (4 * l.count) l.planes) (numbers : Bor (List ℕ)) (f : numbers.now ≡ l.numbers) where
+module _ (op : operations.Operation) {a b : LentSolid} {xs : List ℤ} {ns : List ℕ} {path : List ℤ} (h : SoundIn a b xs ns path) {l : JoinedList} (j : JoinTold a.planes.now b.planes.now l) (list : Bor (List ℤ)) (e : list.now ≡ take (4 * l.count) l.planes) (numbers : Bor (List ℕ)) (f : numbers.now ≡ l.numbers) where
   abbrev turn : Turn
-  turn = record { op = op; root = b.root; mark = 0 }
+  turn = record { op = op; root = b.root; above = None }
 
   pub walk_in : SideIn (both_rows a b list numbers) turn path 0 ns 0 a.root
   walk_in =
@@ -37,22 +37,22 @@ module _ {op : ℕ} {a b : LentSolid} {xs : List ℤ} {ns : List ℕ} {path : Li
       let u = h.second_solid in
       record {
         grounds = ground_in h j e refl;
-        here = record { operation = h.operation; op_is = h.op_is; turn = none; turn_is = refl; tree = h.first; stands = stands_a s u j e f; second = h.second; second_stands = stands_b s u j e f; cell = box; on = at_box };
+        here = record { tree = h.first; stands = stands_a s u j e f; second = h.second; second_stands = stands_b s u j e f; cell = box; on = at_box };
         room = record { rows = omega arith; few = omega arith };
       }
 
   module _ {path' : List ℤ} {ns' : List ℕ} {z : Walked} (d : Did (both_rows a b list numbers) turn path path' 0 ns ns' 0 a.root z) (en : length ns' ≡ length ns) where
-    pub merged_rows : (o : Operation) {A B s : Tree} → op ≡ operation_code o → SolidOf a.planes.now a.nodes.now a.root A → SolidOf b.planes.now b.nodes.now b.root B → Merged o A B s → RowsOf list.now ns ns' z s
-    merged_rows o {A} {B} {s} eo u v w = record {
+    pub merged_rows : {A B s : Tree} → SolidOf a.planes.now a.nodes.now a.root A → SolidOf b.planes.now b.nodes.now b.root B → Merged (operation_of op) A B s → RowsOf list.now ns ns' z s
+    merged_rows {A} {B} {s} u v w = record {
       in_order = joined_in_order u v j e f;
-      sub = λ p m. joined_has u v j e f p (merge_planes o u.lawful v.lawful w p m);
+      sub = λ p m. joined_has u v j e f p (merge_planes (operation_of op) u.lawful v.lawful w p m);
       zero = h.zeros.nodes_zero;
       long = en;
-      emitted = d.emitted o none A B s box eo refl (stands_a u v j e f) (stands_b u v j e f) at_box w;
+      emitted = d.emitted A B s box (stands_a u v j e f) (stands_b u v j e f) at_box w;
     }
 
-pub put_in : {op : ℕ} {a b : LentSolid} {xs : List ℤ} {ns : List ℕ} {path : List ℤ} (h : SoundIn op a b xs ns path) {l : JoinedList} (j : JoinTold a.planes.now b.planes.now l) (list : Bor (List ℤ)) (e : list.now ≡ take (4 * l.count) l.planes) (numbers : Bor (List ℕ)) (f : numbers.now ≡ l.numbers) {path' : List ℤ} {ns' : List ℕ} {root m : ℕ}
-    → Did (both_rows a b list numbers) (record { op = op; root = b.root; mark = 0 }) path path' 0 ns ns' 0 a.root (Ok (root, m)) → length ns' ≡ length ns → PutIn list.now xs ns' root m
-put_in {ns = ns} h j list e numbers f d en =
-    let s = merge h.operation h.first_solid.lawful h.second_solid.lawful in
-    record { blank = ns; tree = s.0; rows = merged_rows h j list e numbers f d en h.operation h.op_is h.first_solid h.second_solid s.1; zeros = h.zeros.planes_zero }
+pub put_in : (op : operations.Operation) {a b : LentSolid} {xs : List ℤ} {ns : List ℕ} {path : List ℤ} (h : SoundIn a b xs ns path) {l : JoinedList} (j : JoinTold a.planes.now b.planes.now l) (list : Bor (List ℤ)) (e : list.now ≡ take (4 * l.count) l.planes) (numbers : Bor (List ℕ)) (f : numbers.now ≡ l.numbers) {path' : List ℤ} {ns' : List ℕ} {root m : ℕ}
+    → Did (both_rows a b list numbers) (record { op = op; root = b.root; above = None }) path path' 0 ns ns' 0 a.root (Ok (root, m)) → length ns' ≡ length ns → PutIn list.now xs ns' root m
+put_in op {ns = ns} h j list e numbers f d en =
+    let s = merge (operation_of op) h.first_solid.lawful h.second_solid.lawful in
+    record { blank = ns; tree = s.0; rows = merged_rows op h j list e numbers f d en h.first_solid h.second_solid s.1; zeros = h.zeros.planes_zero }

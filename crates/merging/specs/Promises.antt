@@ -4,7 +4,6 @@
 use Rattle.std.specs.Prelude.{◌≡◌, List, ℕ, ℤ, Result}
 use Rattle.scope.specs.Solids.{Tree}
 use Rattle.scope.specs.Cells.{Operation, Merged}
-use Rattle.scope.specs.Text.{operation_code}
 use Rattle.scope.specs.Answers.{tree_answer}
 use Rattle.theory.specs.Text.Lent.{lent}
 use Rattle.tables.specs.declared.LentSolid.{LentSolid}
@@ -17,8 +16,8 @@ MergeTold op ap an ar bp bn br xs xs' ns ns' w w' r = Told (merge_of op (lent ap
 
 -- ---- on the way
 
-abbrev pub SoundTold : ℕ → LentSolid → LentSolid → List ℤ → List ℤ → List ℕ → List ℕ → Result Solid ℕ → Type 0
-SoundTold op a b xs xs' ns ns' r = (o : Operation) (A B s : Tree) → op ≡ operation_code o → SolidOf a.planes.now a.nodes.now a.root A → SolidOf b.planes.now b.nodes.now b.root B → Merged o A B s → Outcome (tree_answer (rooms xs ns) s) xs' ns' r
+abbrev pub SoundTold : Operation → LentSolid → LentSolid → List ℤ → List ℤ → List ℕ → List ℕ → Result Solid ℕ → Type 0
+SoundTold o a b xs xs' ns ns' r = (A B s : Tree) → SolidOf a.planes.now a.nodes.now a.root A → SolidOf b.planes.now b.nodes.now b.root B → Merged o A B s → Outcome (tree_answer (rooms xs ns) s) xs' ns' r
 
 abbrev pub JudgedTold : ℕ → ℕ → LentSolid → LentSolid → List ℤ → List ℤ → List ℕ → List ℕ → Result Solid ℕ → Type 0
 JudgedTold work op a b xs xs' ns ns' r = Judged (merge_of op (lent a.planes.now a.nodes.now a.root) (lent b.planes.now b.nodes.now b.root)) work xs xs' ns ns' r

@@ -3,10 +3,10 @@
 // rows' numbers change.
 #![tactic(auto)]
 
-ghost use Rattle.std.specs.Prelude.{◌≡◌, ◌≤◌, length};
+ghost use Rattle.std.specs.Prelude.{◌≤◌, length};
 ghost use Rattle.scope.specs.Limits.{stated};
-ghost use Rattle.scope.specs.Judging.{known as is_known};
 ghost use Rattle.refusals.specs.Numbers.{numbered};
+ghost use Rattle.walks.specs.Marks.{operation_of};
 ghost use Rattle.results.specs.Results.{ZerosIn};
 ghost use Rattle.results.specs.Operands.{SoundIn};
 ghost use Rattle.merging.specs.Promises.{SoundTold, JudgedTold, MergeTold};
@@ -16,21 +16,21 @@ use polygons::Room;
 use refusals::Refusal;
 use results::{give, put_out};
 use tables::{LentSolid, Solid, judge_rows};
-use walks::{Operands, Turn, side_walk};
+use walks::{Operands, Operation, Turn, side_walk};
 
 // ---- two solids
 
 // The merge of two sound solids, put out into tables of zeros.
 fn merge_sound(
-    op: u8,
+    op: Operation,
     a: &LentSolid,
     b: &LentSolid,
     planes: &mut [i64],
     nodes: &mut [u16],
     path: &mut [i64],
 ) -> Result<Solid, Refusal>
-    requires { SoundIn op a.now b.now planes.old nodes.old path.old }
-    ensures { SoundTold op a.now b.now planes.old planes.new nodes.old nodes.new (numbered result) }
+    requires { SoundIn a.now b.now planes.old nodes.old path.old }
+    ensures { SoundTold (operation_of op) a.now b.now planes.old planes.new nodes.old nodes.new (numbered result) }
 {
     let joined = JoinedList::of(a.planes, b.planes);
     let o = Operands {
@@ -42,21 +42,13 @@ fn merge_sound(
     let t = Turn {
         op,
         root: b.root,
-        mark: walks::IN_A,
+        above: None,
     };
     let (root, m) = side_walk(&o, t, path, 0, &mut Room::new(), nodes, 0, a.root)?;
     put_out(o.planes, planes, nodes, root, m)
 }
 
 // ---- what is refused first
-
-// Whether an operation is known: union, intersection, A minus B.
-#[tactic(auto, unfolding(scope::specs::Judging::known))]
-fn known(op: u8) -> bool
-    ensures { result ≡ is_known op }
-{
-    (1..=3).contains(&op)
-}
 
 // The merge of two solids, put out into tables of zeros, or the first refusal: the operation, A, B, and then 8 and 9.
 fn merge_judged(
@@ -71,12 +63,10 @@ fn merge_judged(
     requires long { stated ≤ length work.old }
     ensures { JudgedTold (length work.old) op a.now b.now planes.old planes.new nodes.old nodes.new (numbered result) }
 {
-    if !known(op) {
-        return Err(Refusal::UnknownOperation);
-    }
+    let operation = Operation::try_from(op)?;
     judge_rows(a)?;
     judge_rows(b)?;
-    merge_sound(op, a, b, planes, nodes, work)
+    merge_sound(operation, a, b, planes, nodes, work)
 }
 
 // The merge of A and B by operation 1 union, 2 intersection, 3 A minus B: its planes and nodes, in the tables lent for them.

@@ -39,7 +39,7 @@ module _ {xs : List ℤ} {ns : List ℕ} {r : ℕ} {t : Tree} (s : SolidOf xs ns
   holds : HoldsList xs (ascending (planes t))
   holds = record { table = flat.planes; order = ascending_law (planes t); few = s.lawful.few_planes }
 
-pub join_in : {op : ℕ} {a b : LentSolid} {xs : List ℤ} {ns : List ℕ} {path : List ℤ} → SoundIn op a b xs ns path → JoinIn a.planes.now b.planes.now
+pub join_in : {a b : LentSolid} {xs : List ℤ} {ns : List ℕ} {path : List ℤ} → SoundIn a b xs ns path → JoinIn a.planes.now b.planes.now
 join_in h = record { first = ascending (planes h.first); second = ascending (planes h.second); first_held = holds h.first_solid; second_held = holds h.second_solid }
 
 -- ---- two solids, and their joined list
@@ -101,7 +101,7 @@ whole_part n xs = ap (λ k. take k xs) {x = n - 0} {y = n} (omega arith)
 abbrev pub both_rows : LentSolid → LentSolid → Bor (List ℤ) → Bor (List ℕ) → Operands
 both_rows a b planes numbers = record { planes = planes; a = a.nodes; b = b.nodes; numbers = numbers }
 
-module _ {op : ℕ} {a b : LentSolid} {xs : List ℤ} {ns : List ℕ} {path : List ℤ} (h : SoundIn op a b xs ns path) {l : JoinedList} (j : JoinTold a.planes.now b.planes.now l) where
+module _ {a b : LentSolid} {xs : List ℤ} {ns : List ℕ} {path : List ℤ} (h : SoundIn a b xs ns path) {l : JoinedList} (j : JoinTold a.planes.now b.planes.now l) where
   pub joined_few : l.count ≤ 128
   joined_few = (j (ascending (planes h.first)) (ascending (planes h.second)) (holds h.first_solid) (holds h.second_solid)).few
 

@@ -1,17 +1,13 @@
--- Two solids in lent tables, an operation of them, and the room that a call needs.
+-- Two solids in lent tables, and the room that a call needs.
 --     SoundIn
-use Rattle.std.specs.Prelude.{◌≡◌, List, ℕ, ◌≤◌, ℤ, length}
+use Rattle.std.specs.Prelude.{List, ℕ, ◌≤◌, ℤ, length}
 use Rattle.scope.specs.Solids.{Tree}
-use Rattle.scope.specs.Cells.{Operation}
-use Rattle.scope.specs.Text.{operation_code}
 use Rattle.tables.specs.declared.LentSolid.{LentSolid}
 use Rattle.tables.specs.Promises.{SolidOf}
 use Rattle.results.specs.Results.{ZerosIn}
 
--- two solids, an operation, tables of zeros, and room for a path
-pub record SoundIn (op : ℕ) (a b : LentSolid) (xs : List ℤ) (ns : List ℕ) (path : List ℤ) : Type 0 where
-  pub operation : Operation
-  pub op_is : op ≡ operation_code operation
+-- two solids, tables of zeros, and room for a path
+pub record SoundIn (a b : LentSolid) (xs : List ℤ) (ns : List ℕ) (path : List ℤ) : Type 0 where
   pub first : Tree
   pub first_solid : SolidOf a.planes.now a.nodes.now a.root first
   pub second : Tree

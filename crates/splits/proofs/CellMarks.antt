@@ -5,7 +5,6 @@
 use mathlib.Core.Path.{◌≡◌, refl, sym, ap, subst}
 use mathlib.Core.Bool.{true, false}
 use mathlib.Core.List.{List}
-use mathlib.Core.Option.{none}
 use Prim.Native.Nat.{ℕ, ◌≤◌}
 use native.Mathlib.Omega.{arith}
 use lib.IntN.{ℤ}
@@ -17,8 +16,7 @@ use Rattle.refusals.specs.declared.Refusal.{Refusal}
 use Rattle.refusals.specs.Numbers.{numbered}
 use Rattle.scope.specs.Planes.{Plane, Point, Lawful}
 use Rattle.scope.specs.Solids.{Tree, rows, code}
-use Rattle.scope.specs.Cells.{Inside, box, MergedIn, Operation, operate}
-use Rattle.scope.specs.Normal.{both}
+use Rattle.scope.specs.Cells.{Inside, box, MergedIn, operate}
 use Rattle.theory.specs.Planes.Lawful.{lawful_nonzero}
 use Rattle.theory.specs.Planes.General.{Nonzero}
 use Rattle.theory.specs.Cells.Box.{tail}
@@ -29,6 +27,7 @@ use Rattle.theory.specs.Cells.Uniform.{Split, in_out, out_in, under_front, under
 use Rattle.cells.specs.Paths.{OnPath, at_box, below}
 use Rattle.walks.specs.declared.Turn.{Turn}
 use Rattle.walks.specs.declared.rows.Operands.{Operands}
+use Rattle.walks.specs.Marks.{operation_of}
 use Rattle.walks.specs.Standing.{list, Stands}
 use Rattle.walks.specs.Putting.{Walked as Answer, Emitted}
 use Rattle.walks.specs.Walks.{In, Did}
@@ -36,6 +35,7 @@ use Rattle.walks.proofs.Emits.{got, lost}
 use Rattle.walks.proofs.Ways.{on_inside}
 use Rattle.walks.specs.Walks.{Ground}
 use Rattle.borders.specs.declared.Pair.{Pair}
+use Rattle.borders.specs.Bounded.{pair_space}
 use Rattle.borders.proofs.Rows.{tree_lawful}
 use Rattle.splits.specs.Splits.{Stood, MarkIs, is_uniform, is_mixed, MarkTold}
 
@@ -60,10 +60,10 @@ split_rows (under_front s) = omega arith
 split_rows (under_back s) = omega arith
 
 abbrev turn_of : Pair → Turn
-turn_of t = record { op = t.op; root = t.br; mark = 0 }
+turn_of t = record { op = t.op; root = t.br; above = None }
 
 module _ {o : Operands} {t : Pair} {path : List ℤ} {depth : ℕ} where
-  module _ (g : Ground o.planes.now path) {q : Operation} {A B : Tree} {c : List Plane} (s : Stood o t path depth q A B c) where
+  module _ (g : Ground o.planes.now path) {A B : Tree} {c : List Plane} (s : Stood o t path depth A B c) where
     lawful : {ns : List ℕ} {k e : ℕ} {u : Tree} → Stands o.planes.now o.numbers.now ns k e u → EachPlane Lawful u
     lawful = tree_lawful g.lawful
 
@@ -71,31 +71,31 @@ module _ {o : Operands} {t : Pair} {path : List ℤ} {depth : ℕ} where
     thick x = record { each = λ p m. lawful_nonzero ((lawful x).each p m) }
 
     -- the merge in the cell
-    merged : (r : Tree) × MergedIn (operate q) c A B r
-    merged = let X = on_inside s.on in merged_some (operate q) B Lawful (λ p l. lawful_nonzero l) decided (lawful s.pair.second_stands) A c X.0 (lawful s.pair.first_stands) (on_cell s.on) X.1
+    merged : (r : Tree) × MergedIn (operate (operation_of t.op)) c A B r
+    merged = let X = on_inside s.on in merged_some (operate (operation_of t.op)) B Lawful (λ p l. lawful_nonzero l) decided (lawful s.pair.second_stands) A c X.0 (lawful s.pair.first_stands) (on_cell s.on) X.1
 
     -- its tree was put out into a table of one number: a leaf has no rows, and any other tree has one at least
-    by_done : {r : Tree} {out out' : List ℕ} {z : Answer} {m n : ℕ} → MergedIn (operate q) c A B r → length out ≡ 1 → Emitted (list o.planes.now) out out' 0 r z → z ≡ Ok (m, n) → theory.Kind r → MarkIs (both (operate q) A B) c (Some m)
+    by_done : {r : Tree} {out out' : List ℕ} {z : Answer} {m n : ℕ} → MergedIn (operate (operation_of t.op)) c A B r → length out ≡ 1 → Emitted (list o.planes.now) out out' 0 r z → z ≡ Ok (m, n) → theory.Kind r → MarkIs (pair_space t A B) c (Some m)
     unfolding code
-    by_done w l e f (one m) = subst (λ m. MarkIs (both (operate q) A B) c (Some m)) (sym (got f e).code_is) (is_uniform m (leaf_uniform (operate q) (thick s.pair.first_stands) (thick s.pair.second_stands) w))
+    by_done w l e f (one m) = subst (λ m. MarkIs (pair_space t A B) c (Some m)) (sym (got f e).code_is) (is_uniform m (leaf_uniform (operate (operation_of t.op)) (thick s.pair.first_stands) (thick s.pair.second_stands) w))
     by_done w l e f (two d) = absurd (omega (arith, l, split_rows d, (got f e).within.rows))
 
-    by_refused : {r : Tree} {out out' : List ℕ} {z : Answer} {n : ℕ} → MergedIn (operate q) c A B r → Emitted (list o.planes.now) out out' 0 r z → z ≡ Err n → theory.Kind r → MarkIs (both (operate q) A B) c None
+    by_refused : {r : Tree} {out out' : List ℕ} {z : Answer} {n : ℕ} → MergedIn (operate (operation_of t.op)) c A B r → Emitted (list o.planes.now) out out' 0 r z → z ≡ Err n → theory.Kind r → MarkIs (pair_space t A B) c None
     unfolding rows
     by_refused w e f (one m) = absurd (lost f e (record { rows = omega arith; few = omega arith }))
-    by_refused w e f (two d) = is_mixed (split_mixed (operate q) (thick s.pair.first_stands) (thick s.pair.second_stands) w d)
+    by_refused w e f (two d) = is_mixed (split_mixed (operate (operation_of t.op)) (thick s.pair.first_stands) (thick s.pair.second_stands) w d)
 
   module _ (g : Ground o.planes.now path) {path' : List ℤ} {out out' : List ℕ} (l : length out ≡ 1) where
-    put_out : {z : Answer} → Did o (turn_of t) path path' depth out out' 0 t.ar z → {q : Operation} {A B : Tree} {c : List Plane} (s : Stood o t path depth q A B c) → Emitted (list o.planes.now) out out' 0 (merged g s).0 z
-    put_out d {q} {A} {B} {c} s = d.emitted q none A B (merged g s).0 c s.pair.op_is refl s.pair.first_stands s.pair.second_stands s.on (merged g s).1
+    put_out : {z : Answer} → Did o (turn_of t) path path' depth out out' 0 t.ar z → {A B : Tree} {c : List Plane} (s : Stood o t path depth A B c) → Emitted (list o.planes.now) out out' 0 (merged g s).0 z
+    put_out d {A} {B} {c} s = d.emitted A B (merged g s).0 c s.pair.first_stands s.pair.second_stands s.on (merged g s).1
 
     pub mark_done : (r : Result (ℕ × ℕ) Refusal) {m n : ℕ} → Did o (turn_of t) path path' depth out out' 0 t.ar (numbered r) → result_ok r ≡ Some (m, n) → MarkTold o t path path' depth (Some m)
     mark_done (Ok p) {m} {n} d e =
         let i : p ≡ (m, n) = cc in
-        record { kept = record { rows = d.kept }; told = λ q A B c s. by_done g s (merged g s).1 l (put_out d s) (ap Ok i) (merged_kind (operate q) B (merged g s).1) }
+        record { kept = record { rows = d.kept }; told = λ A B c s. by_done g s (merged g s).1 l (put_out d s) (ap Ok i) (merged_kind (operate (operation_of t.op)) B (merged g s).1) }
     mark_done (Err k) d e = differ (cc)
 
     pub mark_refused : (r : Result (ℕ × ℕ) Refusal) {y : Option ℕ} → Did o (turn_of t) path path' depth out out' 0 t.ar (numbered r) → result_ok r ≡ None → y ≡ None → MarkTold o t path path' depth y
     mark_refused (Ok p) d e i = differ (cc)
     mark_refused (Err k) d e i =
-        rw i (record { kept = record { rows = d.kept }; told = λ q A B c s. by_refused g s (merged g s).1 (put_out d s) refl (merged_kind (operate q) B (merged g s).1) })
+        rw i (record { kept = record { rows = d.kept }; told = λ A B c s. by_refused g s (merged g s).1 (put_out d s) refl (merged_kind (operate (operation_of t.op)) B (merged g s).1) })

@@ -10,7 +10,7 @@ use lib.ListN.{length}
 use Rattle.std.specs.Prelude.{Option, Some, None, Ok}
 use Rattle.scope.specs.Planes.{Plane}
 use Rattle.scope.specs.Solids.{Mark, Tree, mark, number}
-use Rattle.scope.specs.Cells.{Cuts, Operation, operate}
+use Rattle.scope.specs.Cells.{Cuts}
 use Rattle.scope.specs.Normal as normal
 use Rattle.scope.specs.Normal.{Space, both, Normal}
 use Rattle.theory.specs.Cells.Uniform as theory
@@ -26,7 +26,7 @@ use Rattle.walks.proofs.Emits.{done_same, mark_done}
 use Rattle.walks.proofs.Ways.{on_inside}
 use Rattle.walks.specs.Walks.{Ground}
 use Rattle.borders.specs.declared.Pair.{Pair}
-use Rattle.borders.specs.Bounded.{listed}
+use Rattle.borders.specs.Bounded.{pair_space, listed}
 use Rattle.borders.proofs.Paths.{kept_both}
 use Rattle.borders.proofs.Rows.{both_general}
 use Rattle.splits.specs.declared.First.{First}
@@ -40,7 +40,7 @@ module _ {o : Operands} {bs : List ℕ} {t : Pair} {path : List ℤ} {depth : �
   xs = o.planes.now
 
   -- the planes of A and B are in general position
-  space_general : {q : Operation} {A B : Tree} {c : List Plane} → Stood o t path depth q A B c → General (both (operate q) A B).list
+  space_general : {A B : Tree} {c : List Plane} → Stood o t path depth A B c → General (pair_space t A B).list
   space_general s = both_general h.grounds.lawful s.pair.first_stands s.pair.second_stands
 
   module _ {path' : List ℤ} {y : Option ℕ} (d : MarkTold o t path path' depth y) where
@@ -49,16 +49,16 @@ module _ {o : Operands} {bs : List ℕ} {t : Pair} {path : List ℤ} {depth : �
     form_uniform {m} e = record {
       kept = d.kept;
       placed = λ c n i. subst (Room out) (done_same {z = Ok (m, next)} refl i).1 h.room;
-      emitted = λ q A B s c g n. by q A B s c g n (subst (MarkIs (both (operate q) A B) c) e (d.told q A B c g.stood));
+      emitted = λ A B s c g n. by A B s c g n (subst (MarkIs (pair_space t A B) c) e (d.told A B c g.stood));
     }
       where
-        by : (q : Operation) (A B s : Tree) (c : List Plane) → Given o bs t path depth k q A B c → Normal (both (operate q) A B) c s → {m : ℕ} → MarkIs (both (operate q) A B) c (Some m) → Emitted (list xs) out out next s (Ok (m, next))
-        by q A B s c g n (is_uniform m u) = subst (λ s. Emitted (list xs) out out next s (Ok (number (mark m), next))) (sym (formed_leaf (space_general g.stood) (on_inside g.stood.on).1 u n)) (mark_done (list xs) out next m h.room)
+        by : (A B s : Tree) (c : List Plane) → Given o bs t path depth k A B c → Normal (pair_space t A B) c s → {m : ℕ} → MarkIs (pair_space t A B) c (Some m) → Emitted (list xs) out out next s (Ok (m, next))
+        by A B s c g n (is_uniform m u) = subst (λ s. Emitted (list xs) out out next s (Ok (number (mark m), next))) (sym (formed_leaf (space_general g.stood) (on_inside g.stood.on).1 u n)) (mark_done (list xs) out next m h.room)
 
     -- any other is not
     module _ (e : y ≡ None) where
-      mixed : (q : Operation) (A B : Tree) (c : List Plane) → Given o bs t path depth k q A B c → theory.Mixed (both (operate q) A B) c
-      mixed q A B c g = by (subst (MarkIs (both (operate q) A B) c) e (d.told q A B c g.stood))
+      mixed : (A B : Tree) (c : List Plane) → Given o bs t path depth k A B c → theory.Mixed (pair_space t A B) c
+      mixed A B c g = by (subst (MarkIs (pair_space t A B) c) e (d.told A B c g.stood))
         where
           by : {S : Space} → MarkIs S c None → theory.Mixed S c
           by (is_mixed m) = m
@@ -79,7 +79,7 @@ module _ {o : Operands} {bs : List ℕ} {t : Pair} {path : List ℤ} {depth : �
         form_nothing e = by (subst (FirstIs xs bs h.cell k (length bs)) e (w h.cell (kept_on h.given.stood.on)))
           where
             by : FirstIs xs bs h.cell k (length bs) None → ⊥
-            by (nowhere n) = some_cuts h.given.rest (space_general h.given.stood) (on_within h.given.stood.on) (mixed h.operation h.tree_a h.tree_b h.cell h.given) n
+            by (nowhere n) = some_cuts h.given.rest (space_general h.given.stood) (on_within h.given.stood.on) (mixed h.tree_a h.tree_b h.cell h.given) n
 
         module _ {f : First} (e' : r ≡ Some f) where
           -- the first listed plane that cuts a cell
@@ -98,7 +98,7 @@ module _ {o : Operands} {bs : List ℕ} {t : Pair} {path : List ℤ} {depth : �
           pub later : k ≤ f.place
           later = (found h.given.stood.on).late
 
-          given_on : {q : Operation} {A B : Tree} {c : List Plane} → Given o bs t path depth k q A B c → Given o bs t path' depth f.place q A B c
+          given_on : {A B : Tree} {c : List Plane} → Given o bs t path depth k A B c → Given o bs t path' depth f.place A B c
           given_on g = record {
             stood = record { pair = g.stood.pair; on = kept_on g.stood.on };
             bounded = g.bounded;
@@ -107,16 +107,16 @@ module _ {o : Operands} {bs : List ℕ} {t : Pair} {path : List ℤ} {depth : �
 
           pub halves_in : length path' ≡ length path → HalvesIn o bs t path' depth out next f
           halves_in l = record {
-            whole = record { grounds = ground_in l; ordered = h.ordered; operation = h.operation; tree_a = h.tree_a; tree_b = h.tree_b; cell = h.cell; given = given_on h.given; room = h.room };
+            whole = record { grounds = ground_in l; ordered = h.ordered; tree_a = h.tree_a; tree_b = h.tree_b; cell = h.cell; given = given_on h.given; room = h.room };
             inside = (found h.given.stood.on).inside;
             witness = (found h.given.stood.on).witness;
           }
 
           pub form_split : {path'' : List ℤ} {out' : List ℕ} {z : Answer} → Halved o bs t path' path'' depth out out' next f.place z → Formed o bs t path path'' depth out out' next k z
-          form_split {path''} {out'} {z} u = record { kept = kept_both d.kept u.kept; placed = u.placed; emitted = λ q A B s c g n. by q A B s c g (not_uniform (mixed q A B c g)) (found g.stood.on) n }
+          form_split {path''} {out'} {z} u = record { kept = kept_both d.kept u.kept; placed = u.placed; emitted = λ A B s c g n. by A B s c g (not_uniform (mixed A B c g)) (found g.stood.on) n }
             where
-              by : (q : Operation) (A B s : Tree) (c : List Plane) → Given o bs t path depth k q A B c → ((m : Mark) → ¬ normal.Uniform (both (operate q) A B) c m) → Found c → Normal (both (operate q) A B) c s → Emitted (list xs) out out' next s z
-              by q A B s c g v r n = put (formed_node v (listed_first (given_on g).rest h.ordered g.bounded r.inside (record { point = meeting f.point; on = r.witness.on; inside = r.witness.inside })) n)
+              by : (A B s : Tree) (c : List Plane) → Given o bs t path depth k A B c → ((m : Mark) → ¬ normal.Uniform (pair_space t A B) c m) → Found c → Normal (pair_space t A B) c s → Emitted (list xs) out out' next s z
+              by A B s c g v r n = put (formed_node v (listed_first (given_on g).rest h.ordered g.bounded r.inside (record { point = meeting f.point; on = r.witness.on; inside = r.witness.inside })) n)
                 where
-                  put : Halves (both (operate q) A B) c (listed xs bs f.place) s → Emitted (list xs) out out' next s z
-                  put p = subst (λ s. Emitted (list xs) out out' next s z) (sym p.is) (u.emitted q A B p.front p.back c (given_on g) v p.front_form p.back_form)
+                  put : Halves (pair_space t A B) c (listed xs bs f.place) s → Emitted (list xs) out out' next s z
+                  put p = subst (λ s. Emitted (list xs) out out' next s z) (sym p.is) (u.emitted A B p.front p.back c (given_on g) v p.front_form p.back_form)

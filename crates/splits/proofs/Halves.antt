@@ -14,8 +14,8 @@ use Rattle.std.specs.Prelude.{Ok, Err}
 use Rattle.whole.specs.Tests.{is_true}
 use Rattle.scope.specs.Planes.{Plane, flip, in_range}
 use Rattle.scope.specs.Solids.{Mark, Tree}
-use Rattle.scope.specs.Cells.{Cuts, Operation, operate}
-use Rattle.scope.specs.Normal.{both, Normal, Uniform}
+use Rattle.scope.specs.Cells.{Cuts}
+use Rattle.scope.specs.Normal.{Normal, Uniform}
 use Rattle.theory.specs.Cells.Sides.{half}
 use Rattle.theory.specs.Cells.Path.{take, kept_few}
 use Rattle.planes.specs.Values.{plane, meeting}
@@ -29,7 +29,7 @@ use Rattle.walks.specs.Putting.{Walked as Answer, Room, Put, Emitted}
 use Rattle.walks.specs.Walks.{In}
 use Rattle.walks.proofs.Emits.{room_same, no_rows, got}
 use Rattle.borders.specs.declared.Pair.{Pair}
-use Rattle.borders.specs.Bounded.{listed}
+use Rattle.borders.specs.Bounded.{pair_space, listed}
 use Rattle.borders.specs.Sides.{Kept, Own}
 use Rattle.borders.proofs.Paths.{kept_fewer, kept_both, same_rows, keep_asked}
 use Rattle.borders.proofs.Rows.{own_row}
@@ -69,8 +69,8 @@ module _ {o : Operands} {bs : List ℕ} {t : Pair} {path₀ : List ℤ} {depth :
   push_asked k l = keep_asked k l halves_deep (on_links h.whole.given.stood.on) halves_room
 
   -- the forms of the halves of a cell that is not uniform are not one mark
-  apart : (q : Operation) (A B x y : Tree) (c : List Plane) → Given o bs t path₀ depth f.place q A B c → ((m : Mark) → ¬ Uniform (both (operate q) A B) c m) → Normal (both (operate q) A B) (half true the_plane ∷ c) x → Normal (both (operate q) A B) (half false the_plane ∷ c) y → Apart x y
-  apart q A B x y c i n v w = halves_differ {S = both (operate q) A B} {c = c} {p = the_plane} (i.bounded.are f.place h.inside).1.member n v w
+  apart : (A B x y : Tree) (c : List Plane) → Given o bs t path₀ depth f.place A B c → ((m : Mark) → ¬ Uniform (pair_space t A B) c m) → Normal (pair_space t A B) (half true the_plane ∷ c) x → Normal (pair_space t A B) (half false the_plane ∷ c) y → Apart x y
+  apart A B x y c i n v w = halves_differ {S = pair_space t A B} {c = c} {p = the_plane} (i.bounded.are f.place h.inside).1.member n v w
 
   -- a half-space of the listed plane stands in row `depth` of the path, and the rows before it are as they were
   module _ (s : Bool) {path path' : List ℤ} (k : Kept path₀ path depth) (l : length path ≡ length path₀) {p : struct.Plane} (e : plane p ≡ half s the_plane) (u : Pushed path path' depth p f.point) where
@@ -84,7 +84,7 @@ module _ {o : Operands} {bs : List ℕ} {t : Pair} {path₀ : List ℤ} {depth :
         subst (λ d. OnPath (In xs) path' d (half s the_plane ∷ c)) d
         (on_push u room (on_same on k.rows) s the_plane plane_in e (subst (λ c. Witness the_plane c (meeting f.point)) (on_rows h.whole.given.stood.on ∙ sym (on_rows on)) h.witness))
 
-    half_given : {q : Operation} {A B : Tree} {c : List Plane} → Given o bs t path₀ depth f.place q A B c → Given o bs t path' (depth + 1) (f.place + 1) q A B (half s the_plane ∷ c)
+    half_given : {A B : Tree} {c : List Plane} → Given o bs t path₀ depth f.place A B c → Given o bs t path' (depth + 1) (f.place + 1) A B (half s the_plane ∷ c)
     half_given g = record {
       stood = record { pair = g.stood.pair; on = on_half g.stood.on };
       bounded = g.bounded;
@@ -97,7 +97,6 @@ module _ {o : Operands} {bs : List ℕ} {t : Pair} {path₀ : List ℤ} {depth :
         record {
           grounds = record { lawful = g.lawful; few = g.few; path_room = omega (arith, l, l', g.path_room) };
           ordered = h.whole.ordered;
-          operation = h.whole.operation;
           tree_a = h.whole.tree_a;
           tree_b = h.whole.tree_b;
           cell = half s the_plane ∷ h.whole.cell;
@@ -110,8 +109,8 @@ module _ {o : Operands} {bs : List ℕ} {t : Pair} {path₀ : List ℤ} {depth :
       half_kept : Kept path₀ path'' depth
       half_kept = kept_both k (kept_both (record { rows = pushed_before u room }) (kept_fewer (omega arith) d.kept))
 
-      half_emits : (q : Operation) (A B x : Tree) (c : List Plane) → Given o bs t path₀ depth f.place q A B c → Normal (both (operate q) A B) (half s the_plane ∷ c) x → Emitted (list xs) out out' m x z
-      half_emits q A B x c g n = d.emitted q A B x (half s the_plane ∷ c) (half_given g) n
+      half_emits : (A B x : Tree) (c : List Plane) → Given o bs t path₀ depth f.place A B c → Normal (pair_space t A B) (half s the_plane ∷ c) x → Emitted (list xs) out out' m x z
+      half_emits A B x c g n = d.emitted A B x (half s the_plane ∷ c) (half_given g) n
 
   -- ---- the halves
 
@@ -136,7 +135,7 @@ module _ {o : Operands} {bs : List ℕ} {t : Pair} {path₀ : List ℤ} {depth :
         halves_front i = record {
           kept = front_kept;
           placed = λ c m g. absurd (no_rows refl g);
-          emitted = λ q A B x y c g n v w. front_lost the_plane x y (apart q A B x y c g n v w) i (half_emits true same_rows refl {p = p} e u₁ d₁ q A B x c g v);
+          emitted = λ A B x y c g n v w. front_lost the_plane x y (apart A B x y c g n v w) i (half_emits true same_rows refl {p = p} e u₁ d₁ A B x c g v);
         }
 
         -- behind it
@@ -152,22 +151,22 @@ module _ {o : Operands} {bs : List ℕ} {t : Pair} {path₀ : List ℤ} {depth :
               back_kept : Kept path₀ path₄ depth
               back_kept = half_kept false front_kept (l₂ ∙ l₁) {p = b} (eb ∙ ap flip e) u₃ d₂
 
-              front_emits : (q : Operation) (A B x : Tree) (c : List Plane) → Given o bs t path₀ depth f.place q A B c → Normal (both (operate q) A B) (half true the_plane ∷ c) x → Emitted (list xs) out₀ out₁ next x z₁
+              front_emits : (A B x : Tree) (c : List Plane) → Given o bs t path₀ depth f.place A B c → Normal (pair_space t A B) (half true the_plane ∷ c) x → Emitted (list xs) out₀ out₁ next x z₁
               front_emits = half_emits true same_rows refl {p = p} e u₁ d₁
 
-              back_emits : (q : Operation) (A B y : Tree) (c : List Plane) → Given o bs t path₀ depth f.place q A B c → Normal (both (operate q) A B) (half false the_plane ∷ c) y → Emitted (list xs) out₁ out₂ n₁ y z₂
+              back_emits : (A B y : Tree) (c : List Plane) → Given o bs t path₀ depth f.place A B c → Normal (pair_space t A B) (half false the_plane ∷ c) y → Emitted (list xs) out₁ out₂ n₁ y z₂
               back_emits = half_emits false front_kept (l₂ ∙ l₁) {p = b} (eb ∙ ap flip e) u₃ d₂
 
               pub halves_back : {j : ℕ} → z₂ ≡ Err j → Halved o bs t path₀ path₄ depth out₀ out₂ next f.place (Err j)
               halves_back i = record {
                 kept = back_kept;
                 placed = λ c m g. absurd (no_rows refl g);
-                emitted = λ q A B x y c g n v w. back_lost the_plane x y (apart q A B x y c g n v w) i (got g₁ (front_emits q A B x c g v)) (back_emits q A B y c g w);
+                emitted = λ A B x y c g n v w. back_lost the_plane x y (apart A B x y c g n v w) i (got g₁ (front_emits A B x c g v)) (back_emits A B y c g w);
               }
 
               pub halves_put : {bc n₂ : ℕ} → z₂ ≡ Ok (bc, n₂) → length out₂ ≡ length out₁ → {n : ℕ} → n ≡ get_or bs f.place 0 → {out₃ : List ℕ} {z : Answer} → Put out₂ out₃ n₂ n fc bc z → Halved o bs t path₀ path₄ depth out₀ out₃ next f.place z
               halves_put {bc} {n₂} g₂ m₂ {n} en {out₃} {z} i = record {
                 kept = back_kept;
                 placed = λ c m g. room_same (sym (m₂ ∙ m₁)) (put_placed i g);
-                emitted = λ q A B x y c g k v w. node_put the_plane (apart q A B x y c g k v w) (got g₁ (front_emits q A B x c g v)) (got g₂ (back_emits q A B y c g w)) (subst (λ n. Put out₂ out₃ n₂ n fc bc z) (en ∙ sym own.place) i);
+                emitted = λ A B x y c g k v w. node_put the_plane (apart A B x y c g k v w) (got g₁ (front_emits A B x c g v)) (got g₂ (back_emits A B y c g w)) (subst (λ n. Put out₂ out₃ n₂ n fc bc z) (en ∙ sym own.place) i);
               }

@@ -8,9 +8,9 @@
 use Rattle.std.specs.Prelude.{◌≡◌, List, ◌∷◌, ℕ, ◌≤◌, ◌<◌, ℤ, length, get_or, Option, Some, None, Ok}
 use Rattle.scope.specs.Planes.{Plane, flip}
 use Rattle.scope.specs.Solids.{Mark, Tree, node, mark, number}
-use Rattle.scope.specs.Cells.{Cuts, Operation, operate}
+use Rattle.scope.specs.Cells.{Cuts}
 use Rattle.scope.specs.Normal as normal
-use Rattle.scope.specs.Normal.{Space, both, Boundary, Normal}
+use Rattle.scope.specs.Normal.{Space, Boundary, Normal}
 use Rattle.theory.specs.Planes.Lists.{Ascending}
 use Rattle.theory.specs.Cells.Uniform as theory
 use Rattle.planes.specs.Values.{meeting}
@@ -21,7 +21,7 @@ use Rattle.walks.specs.Putting.{Walked, Room, Emitted}
 use Rattle.walks.specs.Walks.{In}
 use Rattle.walks.specs.Walks.{Ground}
 use Rattle.borders.specs.declared.Pair.{Pair}
-use Rattle.borders.specs.Bounded.{PairIs, listed, Later, Bounded}
+use Rattle.borders.specs.Bounded.{PairIs, pair_space, listed, Later, Bounded}
 use Rattle.borders.specs.Sides.{Kept}
 use Rattle.splits.specs.declared.First.{First}
 
@@ -32,24 +32,23 @@ abbrev pub Rest : Space → List ℤ → List ℕ → ℕ → List Plane → Typ
 Rest S xs bs k c = (q : Plane) → Boundary S q → Cuts q c → Later xs bs k q
 
 -- A and B stand at their root codes; the path leads to the cell
-pub record Stood (o : Operands) (t : Pair) (path : List ℤ) (depth : ℕ) (q : Operation) (A B : Tree) (c : List Plane) : Type 0 where
-  pub pair : PairIs o t q A B
+pub record Stood (o : Operands) (t : Pair) (path : List ℤ) (depth : ℕ) (A B : Tree) (c : List Plane) : Type 0 where
+  pub pair : PairIs o t A B
   pub on : OnPath (In o.planes.now) path depth c
 
-pub record Given (o : Operands) (bs : List ℕ) (t : Pair) (path : List ℤ) (depth k : ℕ) (q : Operation) (A B : Tree) (c : List Plane) : Type 0 where
-  pub stood : Stood o t path depth q A B c
-  pub bounded : Bounded (both (operate q) A B) o.planes.now bs
-  pub rest : Rest (both (operate q) A B) o.planes.now bs k c
+pub record Given (o : Operands) (bs : List ℕ) (t : Pair) (path : List ℤ) (depth k : ℕ) (A B : Tree) (c : List Plane) : Type 0 where
+  pub stood : Stood o t path depth A B c
+  pub bounded : Bounded (pair_space t A B) o.planes.now bs
+  pub rest : Rest (pair_space t A B) o.planes.now bs k c
 
 -- ---- a cell's mark
 
 pub record MarkIn (o : Operands) (t : Pair) (path : List ℤ) (depth : ℕ) : Type 0 where
   pub grounds : Ground o.planes.now path
-  pub operation : Operation
   pub tree_a : Tree
   pub tree_b : Tree
   pub cell : List Plane
-  pub stood : Stood o t path depth operation tree_a tree_b cell
+  pub stood : Stood o t path depth tree_a tree_b cell
 
 pub data MarkIs (S : Space) (c : List Plane) : Option ℕ → Type 0 where
   is_uniform : (m : Mark) → normal.Uniform S c m → MarkIs S c (Some (number (mark m)))
@@ -57,7 +56,7 @@ pub data MarkIs (S : Space) (c : List Plane) : Option ℕ → Type 0 where
 
 pub record MarkTold (o : Operands) (t : Pair) (path path' : List ℤ) (depth : ℕ) (r : Option ℕ) : Type 0 where
   pub kept : Kept path path' depth
-  pub told : (q : Operation) (A B : Tree) (c : List Plane) → Stood o t path depth q A B c → MarkIs (both (operate q) A B) c r
+  pub told : (A B : Tree) (c : List Plane) → Stood o t path depth A B c → MarkIs (pair_space t A B) c r
 
 -- ---- the first plane that cuts
 
@@ -82,17 +81,16 @@ FirstTold xs bs path depth k n r = (c : List Plane) → OnPath (In xs) path dept
 pub record CellIn (o : Operands) (bs : List ℕ) (t : Pair) (path : List ℤ) (depth : ℕ) (out : List ℕ) (next k : ℕ) : Type 0 where
   pub grounds : Ground o.planes.now path
   pub ordered : Ascending (list o.planes.now)
-  pub operation : Operation
   pub tree_a : Tree
   pub tree_b : Tree
   pub cell : List Plane
-  pub given : Given o bs t path depth k operation tree_a tree_b cell
+  pub given : Given o bs t path depth k tree_a tree_b cell
   pub room : Room out next
 
 pub record Formed (o : Operands) (bs : List ℕ) (t : Pair) (path path' : List ℤ) (depth : ℕ) (out out' : List ℕ) (next k : ℕ) (r : Walked) : Type 0 where
   pub kept : Kept path path' depth
   pub placed : (e m : ℕ) → r ≡ Ok (e, m) → Room out m
-  pub emitted : (q : Operation) (A B s : Tree) (c : List Plane) → Given o bs t path depth k q A B c → Normal (both (operate q) A B) c s → Emitted (list o.planes.now) out out' next s r
+  pub emitted : (A B s : Tree) (c : List Plane) → Given o bs t path depth k A B c → Normal (pair_space t A B) c s → Emitted (list o.planes.now) out out' next s r
 
 -- the plane in the place cuts the cell at the point
 pub record HalvesIn (o : Operands) (bs : List ℕ) (t : Pair) (path : List ℤ) (depth : ℕ) (out : List ℕ) (next : ℕ) (f : First) : Type 0 where
@@ -104,4 +102,4 @@ pub record HalvesIn (o : Operands) (bs : List ℕ) (t : Pair) (path : List ℤ) 
 pub record Halved (o : Operands) (bs : List ℕ) (t : Pair) (path path' : List ℤ) (depth : ℕ) (out out' : List ℕ) (next k : ℕ) (r : Walked) : Type 0 where
   pub kept : Kept path path' depth
   pub placed : (e m : ℕ) → r ≡ Ok (e, m) → Room out m
-  pub emitted : (q : Operation) (A B f g : Tree) (c : List Plane) → Given o bs t path depth k q A B c → ((m : Mark) → ¬ normal.Uniform (both (operate q) A B) c m) → Normal (both (operate q) A B) (listed o.planes.now bs k ∷ c) f → Normal (both (operate q) A B) (flip (listed o.planes.now bs k) ∷ c) g → Emitted (list o.planes.now) out out' next (node (listed o.planes.now bs k) f g) r
+  pub emitted : (A B f g : Tree) (c : List Plane) → Given o bs t path depth k A B c → ((m : Mark) → ¬ normal.Uniform (pair_space t A B) c m) → Normal (pair_space t A B) (listed o.planes.now bs k ∷ c) f → Normal (pair_space t A B) (flip (listed o.planes.now bs k) ∷ c) g → Emitted (list o.planes.now) out out' next (node (listed o.planes.now bs k) f g) r

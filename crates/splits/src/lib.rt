@@ -15,7 +15,7 @@ use cells::{Classified, classify, opposite, push};
 use planes::Meeting;
 use polygons::Room;
 use refusals::Refusal;
-use walks::{IN_A, Operands, Turn, emit, side_walk};
+use walks::{Operands, Turn, emit, side_walk};
 
 // The first listed plane that cuts a cell: its place in the list, and a point that shows it.
 #[derive(Clone, Copy)]
@@ -36,7 +36,7 @@ fn mark_of(o: &Operands, pair: Pair, path: &mut [i64], depth: usize, room: &mut 
     let t = Turn {
         op: pair.op,
         root: pair.br,
-        mark: IN_A,
+        above: None,
     };
     let (m, _) = side_walk(o, t, path, depth, room, &mut none, 0, pair.ar).ok()?;
     Some(m)

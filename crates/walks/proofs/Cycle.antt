@@ -3,12 +3,12 @@
 --     Pushed, front_pushed, back_pushed    a half-space of the row on the path
 --     side_in, side_kept, side_emits    a side: what its walk is given, what it leaves of the path, and the rows that it put out
 --     node_front, node_back, node_closed        the node's walk, from the answers of its sides
---     cut_in, code_in, end_in, below_in    what the calls of a side's walk are given
+--     cut_in, code_in, below_in    what the calls of a side's walk are given
 --     side_code, side_mark, side_b                  the side's walk, from the answers of these
 use mathlib.Core.Path.{◌≡◌, refl, sym, ap, subst, ◌∙◌}
 use mathlib.Core.Bool.{Bool, true, false}
 use mathlib.Core.List.{List, ◌∷◌}
-use mathlib.Core.Option.{Option, none, some}
+use mathlib.Core.Option.{Option}
 use Prim.Native.Nat.{ℕ, suc, ◌+◌, ◌*◌, ◌≤◌, ◌<◌}
 use native.Mathlib.Decide.{dec_le}
 use native.Mathlib.Omega.{arith}
@@ -16,11 +16,11 @@ use lib.Dec.{eqb}
 use borrow.Author.Tests.{eqb-true, eqb-false}
 use lib.IntN.{ℤ, pos}
 use lib.ListN.{length, get_or}
-use Rattle.whole.specs.Tests.{differ, is_true}
+use Rattle.whole.specs.Tests.{is_true}
 use Rattle.scope.specs.Planes.{Plane, flip, in_range}
-use Rattle.scope.specs.Solids.{Mark, Tree, leaf, node, mark, number, place}
+use Rattle.scope.specs.Solids.{Mark, Tree, leaf, node, place}
 use Rattle.scope.specs.Cells.{Cuts, end, join, Operation, operate}
-use Rattle.scope.specs.Text.{operation_code}
+use Rattle.walks.specs.declared.operations.Mark as marks
 use Rattle.theory.specs.Cells.Sides.{half}
 use Rattle.theory.specs.Cells.Path.{take, kept_few}
 use Rattle.std.specs.Prelude.{Ok, Err, Option as Maybe, Some, None}
@@ -37,11 +37,11 @@ use Rattle.walks.specs.declared.rows.Operands.{Operands}
 use Rattle.walks.specs.declared.Reached as Reached
 use Rattle.walks.specs.Standing.{offset, list, walked, number_at, RowIs, Stands}
 use Rattle.walks.specs.Putting.{Walked as Answer, Room, Closed, Emitted}
-use Rattle.walks.specs.Marks.{turn_code, EndIn, EndsAs, in_b, alone, asks, EndIs}
+use Rattle.walks.specs.Marks.{operation_of, mark_of, above_of, mark_code, EndsAs, in_b, alone}
 use Rattle.walks.specs.Walks.{In, Ends, WalkedIn, Ground, StandsIn, Here, SideIn, NodeIn, ToCode, Leads, StepTold, Did}
-use Rattle.walks.proofs.RowsRead.{offset_b, in_b as in-b-rows}
+use Rattle.walks.proofs.Marks.{asked_in_a}
 use Rattle.walks.proofs.Emits.{room?, room_same, no_rows, done_same, got, mark_done, closed, front_lost, back_lost}
-use Rattle.walks.proofs.Ways.{RowAt, as_row, as_mark, code_small, BothSides, walk_cut, second_alone}
+use Rattle.walks.proofs.Ways.{RowAt, as_row, as_leaf, code_small, BothSides, walk_cut, second_alone}
 
 -- a path leads to one cell
 cell_one : {Q : Plane → Type 0} {path : List ℤ} {d : ℕ} {c e : List Plane} → OnPath Q path d c → OnPath Q path d e → c ≡ e
@@ -81,18 +81,18 @@ back_falls {r = r} h e = subst (λ c. c < 65534 → c < r) (sym e) h.back_less
 
 module _ {o : Operands} {t : Turn} {path₀ : List ℤ} {depth : ℕ} {out₀ : List ℕ} {next r : ℕ} {x : Meeting} (h : NodeIn o t path₀ depth out₀ next r x) where
   abbrev ns : List ℕ
-  ns = walked o t.mark
+  ns = walked o t.above
 
   abbrev place_of : ℕ
-  place_of = number_at o t.mark r
+  place_of = number_at o t.above r
 
   abbrev the_plane : Plane
   the_plane = plane_at o.planes.now place_of
 
-  pub node_row : RowAt o.planes.now o.numbers.now ns (offset t.mark) r h.side.here.tree
+  pub node_row : RowAt o.planes.now o.numbers.now ns (offset t.above) r h.side.here.tree
   node_row = as_row h.row h.side.here.stands
 
-  own : RowIs o.planes.now o.numbers.now ns (offset t.mark) r node_row.plane
+  own : RowIs o.planes.now o.numbers.now ns (offset t.above) r node_row.plane
   own = node_row.row
 
   plane_in : In o.planes.now the_plane
@@ -143,7 +143,7 @@ module _ {o : Operands} {t : Turn} {path₀ : List ℤ} {depth : ℕ} {out₀ : 
     pub side_in : {out : List ℕ} {m c : ℕ} → c ≡ get_or ns (3 * r + child s) 0 → Room out m → SideIn o t path' (depth + 1) out m c
     side_in {out} {m} {c} e w = record {
       grounds = record { lawful = g.lawful; few = g.few; path_room = omega (arith, k.long, k.long', g.path_room) };
-      here = record { operation = i.operation; op_is = i.op_is; turn = i.turn; turn_is = i.turn_is; tree = tree s; stands = subst (λ c. StandsIn o t.mark c (tree s)) (sym e) (stands s); second = i.second; second_stands = i.second_stands; cell = half s the_plane ∷ i.cell; on = on_half i.on };
+      here = record { tree = tree s; stands = subst (λ c. StandsIn o t.above c (tree s)) (sym e) (stands s); second = i.second; second_stands = i.second_stands; cell = half s the_plane ∷ i.cell; on = on_half i.on };
       room = w;
     }
       where
@@ -157,7 +157,7 @@ module _ {o : Operands} {t : Turn} {path₀ : List ℤ} {depth : ℕ} {out₀ : 
         tree true = node_row.front
         tree false = node_row.back
 
-        stands : (s : Bool) → StandsIn o t.mark (get_or ns (3 * r + child s) 0) (tree s)
+        stands : (s : Bool) → StandsIn o t.above (get_or ns (3 * r + child s) 0) (tree s)
         stands true = node_row.front_stands
         stands false = node_row.back_stands
 
@@ -166,32 +166,32 @@ module _ {o : Operands} {t : Turn} {path₀ : List ℤ} {depth : ℕ} {out₀ : 
       pub side_kept : (i : ℕ) → i < depth * 9 → get_or path'' i (pos 0) ≡ get_or path₀ i (pos 0)
       side_kept i l = d.kept i (omega (arith, l)) ∙ pushed_before k.table (omega (arith, k.long, node_room)) i l ∙ k.before i l
 
-      module _ (q : Operation) (j : Option Mark) (w B S : Tree) (cell : List Plane) (eo : t.op ≡ operation_code q) (ej : t.mark ≡ turn_code j) (st : StandsIn o t.mark r w) (sb : Stands o.planes.now o.numbers.now o.b.now 64 t.root B) (on : OnPath (In o.planes.now) path₀ depth cell) where
-        abbrev here : RowAt o.planes.now o.numbers.now ns (offset t.mark) r w
+      module _ (w B S : Tree) (cell : List Plane) (st : StandsIn o t.above r w) (sb : Stands o.planes.now o.numbers.now o.b.now 64 t.root B) (on : OnPath (In o.planes.now) path₀ depth cell) where
+        abbrev here : RowAt o.planes.now o.numbers.now ns (offset t.above) r w
         here = as_row h.row st
 
         -- one side of the walk of a node of the row's plane
-        pub side_emits : (bs : BothSides join (Ends (operate q) B j) cell the_plane here.front here.back S) → Emitted (list o.planes.now) out out' m (result s bs) z
-        side_emits bs = d.emitted q j (tree s) B (result s bs) (half s the_plane ∷ cell) eo ej (subst (λ c. StandsIn o t.mark c (tree s)) (sym e) (stands s)) sb (on_half on) (walk s)
+        pub side_emits : (bs : BothSides join (Ends (operate (operation_of t.op)) B (above_of t.above)) cell the_plane here.front here.back S) → Emitted (list o.planes.now) out out' m (result s bs) z
+        side_emits bs = d.emitted (tree s) B (result s bs) (half s the_plane ∷ cell) (subst (λ c. StandsIn o t.above c (tree s)) (sym e) (stands s)) sb (on_half on) (walk s)
           where
             tree : Bool → Tree
             tree true = here.front
             tree false = here.back
 
-            stands : (s : Bool) → StandsIn o t.mark (get_or ns (3 * r + child s) 0) (tree s)
+            stands : (s : Bool) → StandsIn o t.above (get_or ns (3 * r + child s) 0) (tree s)
             stands true = here.front_stands
             stands false = here.back_stands
 
-            walk : (s : Bool) → WalkedIn q B j (half s the_plane ∷ cell) (tree s) (result s bs)
+            walk : (s : Bool) → WalkedIn (operation_of t.op) B (above_of t.above) (half s the_plane ∷ cell) (tree s) (result s bs)
             walk true = bs.front_walk
             walk false = bs.back_walk
 
   -- the two sides of the walk
-  module _ (q : Operation) (j : Option Mark) (w B S : Tree) (cell : List Plane) (st : StandsIn o t.mark r w) (on : OnPath (In o.planes.now) path₀ depth cell) where
-    sides : WalkedIn q B j cell w S → BothSides join (Ends (operate q) B j) cell the_plane (as_row h.row st).front (as_row h.row st).back S
+  module _ (w B S : Tree) (cell : List Plane) (st : StandsIn o t.above r w) (on : OnPath (In o.planes.now) path₀ depth cell) where
+    sides : WalkedIn (operation_of t.op) B (above_of t.above) cell w S → BothSides join (Ends (operate (operation_of t.op)) B (above_of t.above)) cell the_plane (as_row h.row st).front (as_row h.row st).back S
     sides W =
         let at = as_row h.row st in
-        walk_cut (subst (Cuts the_plane) (cell_one h.side.here.on on) cuts) (subst (λ u. WalkedIn q B j cell u S) (at.is ∙ ap (λ p. node p at.front at.back) (sym at.row.plane)) W)
+        walk_cut (subst (Cuts the_plane) (cell_one h.side.here.on on) cuts) (subst (λ u. WalkedIn (operation_of t.op) B (above_of t.above) cell u S) (at.is ∙ ap (λ p. node p at.front at.back) (sym at.row.plane)) W)
 
   -- ---- the answers
 
@@ -200,9 +200,9 @@ module _ {o : Operands} {t : Turn} {path₀ : List ℤ} {depth : ℕ} {out₀ : 
     node_front {j = i} f = record {
       kept = side_kept true k₁ e₁ d₁;
       placed = λ e m g. absurd (no_rows refl g);
-      emitted = λ q j w B S cell eo ej st sb on W.
-          let bs = sides q j w B S cell st on W in
-          subst (λ S. Emitted (list o.planes.now) out₀ out₁ next S (Err i)) (sym bs.is) (front_lost the_plane bs.front bs.back f (side_emits true k₁ e₁ d₁ q j w B S cell eo ej st sb on bs));
+      emitted = λ w B S cell st sb on W.
+          let bs = sides w B S cell st on W in
+          subst (λ S. Emitted (list o.planes.now) out₀ out₁ next S (Err i)) (sym bs.is) (front_lost the_plane bs.front bs.back f (side_emits true k₁ e₁ d₁ w B S cell st sb on bs));
     }
 
     module _ {f n₁ : ℕ} (g₁ : z₁ ≡ Ok (f, n₁)) (l₁ : length out₁ ≡ length out₀) {path₃ path₄ : List ℤ} {out₂ : List ℕ} {c₂ : ℕ} {z₂ : Answer} (k₂ : Pushed false path₂ path₃) (e₂ : c₂ ≡ get_or ns (3 * r + 2) 0) (d₂ : Did o t path₃ path₄ (depth + 1) out₁ out₂ n₁ c₂ z₂) where
@@ -210,9 +210,9 @@ module _ {o : Operands} {t : Turn} {path₀ : List ℤ} {depth : ℕ} {out₀ : 
       node_back {j = i} f = record {
         kept = side_kept false k₂ e₂ d₂;
         placed = λ e m g. absurd (no_rows refl g);
-        emitted = λ q j w B S cell eo ej st sb on W.
-            let bs = sides q j w B S cell st on W in
-            subst (λ S. Emitted (list o.planes.now) out₀ out₂ next S (Err i)) (sym bs.is) (back_lost the_plane bs.front bs.back f (got g₁ (side_emits true k₁ e₁ d₁ q j w B S cell eo ej st sb on bs)) (side_emits false k₂ e₂ d₂ q j w B S cell eo ej st sb on bs));
+        emitted = λ w B S cell st sb on W.
+            let bs = sides w B S cell st on W in
+            subst (λ S. Emitted (list o.planes.now) out₀ out₂ next S (Err i)) (sym bs.is) (back_lost the_plane bs.front bs.back f (got g₁ (side_emits true k₁ e₁ d₁ w B S cell st sb on bs)) (side_emits false k₂ e₂ d₂ w B S cell st sb on bs));
       }
 
       module _ {g n₂ n : ℕ} (g₂ : z₂ ≡ Ok (g, n₂)) (l₂ : length out₂ ≡ length out₁) (en : n ≡ place_of) {out₃ : List ℕ} {z : Answer} (c : Closed out₂ out₃ n₂ n f g z) where
@@ -223,10 +223,10 @@ module _ {o : Operands} {t : Turn} {path₀ : List ℤ} {depth : ℕ} {out₀ : 
         node_closed = record {
           kept = side_kept false k₂ e₂ d₂;
           placed = λ e m i. room_same (sym (l₂ ∙ l₁)) (closed_placed c (room_same l₂ (d₂.placed g n₂ g₂)) i);
-          emitted = λ q j w B S cell eo ej st sb on W.
-              let bs = sides q j w B S cell st on W in
+          emitted = λ w B S cell st sb on W.
+              let bs = sides w B S cell st on W in
               subst (λ S. Emitted (list o.planes.now) out₀ out₃ next S z) (sym bs.is)
-              (closed the_plane (got g₁ (side_emits true k₁ e₁ d₁ q j w B S cell eo ej st sb on bs)) (got g₂ (side_emits false k₂ e₂ d₂ q j w B S cell eo ej st sb on bs)) (subst (λ n. Closed out₂ out₃ n₂ n f g z) own_place c));
+              (closed the_plane (got g₁ (side_emits true k₁ e₁ d₁ w B S cell st sb on bs)) (got g₂ (side_emits false k₂ e₂ d₂ w B S cell st sb on bs)) (subst (λ n. Closed out₂ out₃ n₂ n f g z) own_place c));
         }
 
 -- ---- a side
@@ -234,15 +234,15 @@ module _ {o : Operands} {t : Turn} {path₀ : List ℤ} {depth : ℕ} {out₀ : 
 module _ {o : Operands} {t : Turn} {path : List ℤ} {depth : ℕ} {out : List ℕ} {next c : ℕ} (h : SideIn o t path depth out next c) where
   -- at a row
   module _ (low : c < 65534) where
-    module _ {y : Reached.Reached} (d : StepTold o t.mark path depth c y) where
+    module _ {y : Reached.Reached} (d : StepTold o t.above path depth c y) where
       pub cut_in : {x : Meeting} → y ≡ Reached.TheVariants.Cut x → NodeIn o t path depth out next c x
       cut_in e =
           let i = h.here in
-          record { side = record { grounds = h.grounds; here = i; room = h.room }; row = low; witness = subst (Leads o t.mark c i.cell i.tree) e (d.leads i.cell i.tree i.on i.stands) }
+          record { side = record { grounds = h.grounds; here = i; room = h.room }; row = low; witness = subst (Leads o t.above c i.cell i.tree) e (d.leads i.cell i.tree i.on i.stands) }
 
       module _ {e : ℕ} (f : y ≡ Reached.TheVariants.Code e) where
-        leads : (cell : List Plane) (w : Tree) → OnPath (In o.planes.now) path depth cell → StandsIn o t.mark c w → ToCode o t.mark cell w e
-        leads cell w on st = subst (Leads o t.mark c cell w) f (d.leads cell w on st)
+        leads : (cell : List Plane) (w : Tree) → OnPath (In o.planes.now) path depth cell → StandsIn o t.above c w → ToCode o t.above cell w e
+        leads cell w on st = subst (Leads o t.above c cell w) f (d.leads cell w on st)
 
         pub code_in : SideIn o t path depth out next e
         code_in =
@@ -250,7 +250,7 @@ module _ {o : Operands} {t : Turn} {path : List ℤ} {depth : ℕ} {out : List �
             let to = leads i.cell i.tree i.on i.stands in
             record {
               grounds = h.grounds;
-              here = record { operation = i.operation; op_is = i.op_is; turn = i.turn; turn_is = i.turn_is; tree = to.tree; stands = to.stands; second = i.second; second_stands = i.second_stands; cell = i.cell; on = i.on };
+              here = record { tree = to.tree; stands = to.stands; second = i.second; second_stands = i.second_stands; cell = i.cell; on = i.on };
               room = h.room;
             }
 
@@ -258,80 +258,53 @@ module _ {o : Operands} {t : Turn} {path : List ℤ} {depth : ℕ} {out : List �
         side_code k = record {
           kept = k.kept;
           placed = k.placed;
-          emitted = λ q j w B S cell eo ej st sb on W. let to = leads cell w on st in k.emitted q j to.tree B S cell eo ej to.stands sb on (to.walk q B j S W);
+          emitted = λ w B S cell st sb on W. let to = leads cell w on st in k.emitted to.tree B S cell to.stands sb on (to.walk (operation_of t.op) B (above_of t.above) S W);
         }
 
   -- at a mark
-  module _ (high : 65534 ≤ c) where
-    pub end_in : EndIn t.op t.mark c
-    end_in =
-        let i = h.here in
-        let q = as_mark high i.stands in
-        record { operation = i.operation; turn = i.turn; met = q.met; op_is = i.op_is; turn_is = i.turn_is; met_is = q.code_is }
-
+  module _ (m : marks.Mark) (is : c ≡ mark_code m) where
     -- the walk of a leaf is the end of its mark
-    record AtMark (q : Operation) (j : Option Mark) (B S : Tree) (cell : List Plane) : Type 0 where
-      met : Mark
-      met_is : c ≡ number (mark met)
-      ends : Ends (operate q) B j cell met S
-
-    at_mark : (q : Operation) (j : Option Mark) (w B S : Tree) (cell : List Plane) → StandsIn o t.mark c w → WalkedIn q B j cell w S → AtMark q j B S cell
-    at_mark q j w B S cell st W = let at = as_mark high st in record { met = at.met; met_is = at.code_is; ends = by (subst (λ u. WalkedIn q B j cell u S) at.is W) }
+    ends_at : (w B S : Tree) (cell : List Plane) → StandsIn o t.above c w → WalkedIn (operation_of t.op) B (above_of t.above) cell w S → Ends (operate (operation_of t.op)) B (above_of t.above) cell (mark_of m) S
+    ends_at w B S cell st W = by (subst (λ u. WalkedIn (operation_of t.op) B (above_of t.above) cell u S) (as_leaf m is st) W)
       where
-        by : {x : Mark} → WalkedIn q B j cell (leaf x) S → Ends (operate q) B j cell x S
+        by : {x : Mark} → WalkedIn (operation_of t.op) B (above_of t.above) cell (leaf x) S → Ends (operate (operation_of t.op)) B (above_of t.above) cell x S
         by (end l) = l
 
-    pub side_mark : {k : Maybe ℕ} {v : ℕ} → k ≡ Some v → EndIs t.op t.mark c k → Did o t path path depth out out next c (Ok (v, next))
-    side_mark {k} {v} f g = record {
-      kept = λ i l. refl;
-      placed = λ v' n i. subst (Room out) (done_same refl i).1 h.room;
-      emitted = λ q j w B S cell eo ej st sb on W.
-          let at = at_mark q j w B S cell st W in
-          by q B cell at.ends (subst (EndsAs q j at.met) f (g q j at.met eo ej at.met_is));
-    }
-      where
-        by : (q : Operation) (B : Tree) (cell : List Plane) {j : Option Mark} {x : Mark} {S : Tree} {v : ℕ} → Ends (operate q) B j cell x S → EndsAs q j x (Some v) → Emitted (list o.planes.now) out out next S (Ok (v, next))
-        by q B cell ends (in_b a x) = subst (λ S. Emitted (list o.planes.now) out out next S (Ok (number (mark (operate q a x)), next))) (sym ends) (mark_done (list o.planes.now) out next (operate q a x) h.room)
-        by q B cell ends (alone x y f) = subst (λ S. Emitted (list o.planes.now) out out next S (Ok (number (mark y), next))) (sym (second_alone f ends)) (mark_done (list o.planes.now) out next y h.room)
-
-    -- B is walked from its root
-    module _ {k : Maybe ℕ} (f : k ≡ None) (g : EndIs t.op t.mark c k) where
-      abbrev below : Turn
-      below = record { op = t.op; root = t.root; mark = c }
-
-      asked : (q : Operation) (j : Option Mark) (x : Mark) → t.op ≡ operation_code q → t.mark ≡ turn_code j → c ≡ number (mark x) → j ≡ none
-      asked q j x eo ej ex = by (subst (EndsAs q j x) f (g q j x eo ej ex))
-        where
-          by : {j : Option Mark} → EndsAs q j x None → j ≡ none
-          by (asks x) = refl
-
-      pub in_a : t.mark ≡ 0
-      in_a = let i = h.here in i.turn_is ∙ ap turn_code (asked i.operation i.turn end_in.met i.op_is i.turn_is end_in.met_is)
-
-      below_stands : {B : Tree} → Stands o.planes.now o.numbers.now o.b.now 64 t.root B → StandsIn o c t.root B
-      below_stands {B} s = let n : c ≡ 0 → ⊥ = λ z. omega (arith, z, high) in subst (λ k. Stands o.planes.now o.numbers.now (walked o c) k t.root B) (offset_b c n) (subst (λ l. Stands o.planes.now o.numbers.now l 64 t.root B) (in-b-rows c o.a.now o.b.now n) s)
-
-      pub below_in : SideIn o below path depth out next t.root
-      below_in =
-          let i = h.here in
-          record {
-            grounds = h.grounds;
-            here = record { operation = i.operation; op_is = i.op_is; turn = some end_in.met; turn_is = end_in.met_is; tree = i.second; stands = below_stands i.second_stands; second = i.second; second_stands = i.second_stands; cell = i.cell; on = i.on };
-            room = h.room;
-          }
-
-      pub root_low : t.root < 65534 → t.root < 1000
-      root_low = code_small h.here.second_stands
-
-      pub side_b : {path' : List ℤ} {out' : List ℕ} {z : Answer} → Did o below path path' depth out out' next t.root z → Did o t path path' depth out out' next c z
-      side_b {path'} {out'} {z} k = record {
-        kept = k.kept;
-        placed = k.placed;
-        emitted = λ q j w B S cell eo ej st sb on W.
-            let at = at_mark q j w B S cell st W in
-            k.emitted q (some at.met) B B S cell eo at.met_is (below_stands sb) sb on (b_walk q j B S cell at.met (asked q j at.met eo ej at.met_is) at.ends);
+    module _ {k : Maybe marks.Mark} (g : EndsAs (operation_of t.op) (above_of t.above) (mark_of m) k) where
+      pub side_mark : {v : marks.Mark} {n : ℕ} → k ≡ Some v → n ≡ mark_code v → Did o t path path depth out out next c (Ok (n, next))
+      side_mark {v} {n} f e = record {
+        kept = λ i l. refl;
+        placed = λ v' n i. subst (Room out) (done_same refl i).1 h.room;
+        emitted = λ w B S cell st sb on W. subst (λ n. Emitted (list o.planes.now) out out next S (Ok (n, next))) (sym e) (by (operation_of t.op) B cell (ends_at w B S cell st W) (subst (EndsAs (operation_of t.op) (above_of t.above) (mark_of m)) f g));
       }
         where
-          b_walk : (q : Operation) (j : Option Mark) (B S : Tree) (cell : List Plane) (x : Mark) → j ≡ none → Ends (operate q) B j cell x S → WalkedIn q B (some x) cell B S
-          b_walk q none B S cell x e l = l
-          b_walk q (some y) B S cell x e l = differ (cc)
+          by : (q : Operation) (B : Tree) (cell : List Plane) {j : Option Mark} {x : Mark} {S : Tree} → Ends (operate q) B j cell x S → EndsAs q j x (Some v) → Emitted (list o.planes.now) out out next S (Ok (mark_code v, next))
+          by q B cell {S = S} l (in_b i) = subst (λ S. Emitted (list o.planes.now) out out next S (Ok (mark_code v, next))) (sym (l ∙ ap leaf (sym i))) (mark_done (list o.planes.now) out next (mark_of v) h.room)
+          by q B cell {S = S} l (alone i) = subst (λ S. Emitted (list o.planes.now) out out next S (Ok (mark_code v, next))) (sym (second_alone i l)) (mark_done (list o.planes.now) out next (mark_of v) h.room)
+
+      -- B is walked from its root
+      module _ (f : k ≡ None) where
+        abbrev below : Turn
+        below = record { op = t.op; root = t.root; above = Some m }
+
+        pub in_a : t.above ≡ None
+        in_a = asked_in_a (subst (EndsAs (operation_of t.op) (above_of t.above) (mark_of m)) f g)
+
+        pub below_in : SideIn o below path depth out next t.root
+        below_in =
+            let i = h.here in
+            record {
+              grounds = h.grounds;
+              here = record { tree = i.second; stands = i.second_stands; second = i.second; second_stands = i.second_stands; cell = i.cell; on = i.on };
+              room = h.room;
+            }
+
+        pub root_low : t.root < 65534 → t.root < 1000
+        root_low = code_small h.here.second_stands
+
+        pub side_b : {path' : List ℤ} {out' : List ℕ} {z : Answer} → Did o below path path' depth out out' next t.root z → Did o t path path' depth out out' next c z
+        side_b k = record {
+          kept = k.kept;
+          placed = k.placed;
+          emitted = λ w B S cell st sb on W. k.emitted B B S cell sb sb on (subst (λ j. Ends (operate (operation_of t.op)) B (above_of j) cell (mark_of m) S) in_a (ends_at w B S cell st W));
+        }

@@ -1,4 +1,3 @@
-pub mod RowsRead
 pub mod Marks
 pub mod Emits
 pub mod Rank

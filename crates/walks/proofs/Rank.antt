@@ -1,12 +1,14 @@
 -- The measure of a walk: a node's walk below its side's walk, a mark below all, and B below A.
 --     rank             of a code: twice the row and 2, or 0 for a mark
 --     base             of a turn: B below A
+use Rattle.std.specs.Prelude.{Option, Some, None}
+use Rattle.walks.specs.declared.operations.Mark.{Mark}
 use mathlib.Core.Path.{◌≡◌, refl}
 use mathlib.Core.Bool.{Bool, true, false, cond}
-use Prim.Native.Nat.{ℕ, zero, suc, ◌+◌, ◌*◌, ◌≤◌, ◌<◌}
+use Prim.Native.Nat.{ℕ, ◌+◌, ◌*◌, ◌<◌}
 use native.Mathlib.Omega.{arith}
 use lib.Dec.{ltb}
-use borrow.Author.Tests.{lt-ltb, le-ltb, ltb-true}
+use borrow.Author.Tests.{lt-ltb, ltb-true}
 
 unfoldable pub rank : ℕ → ℕ
 rank c = cond (ltb c 65534) (c * 2 + 2) 0
@@ -14,10 +16,6 @@ rank c = cond (ltb c 65534) (c * 2 + 2) 0
 pub rank_row : (c : ℕ) → c < 65534 → rank c ≡ c * 2 + 2
 unfolding rank
 rank_row c h = simp (lt-ltb c 65534 h)
-
-pub rank_mark : (c : ℕ) → 65534 ≤ c → rank c ≡ 0
-unfolding rank
-rank_mark c h = simp (le-ltb c 65534 h)
 
 pub rank_below : (c r : ℕ) → (c < 65534 → c < r) → rank c < r * 2 + 1
 unfolding rank
@@ -31,16 +29,6 @@ pub rank_under : (f c : ℕ) → c < 65534 → (f < 65534 → f < c) → rank f 
 rank_under f c h k = omega (arith, rank_row c h, rank_below f c k)
 
 -- in A, and in B below a leaf of A
-unfoldable pub base : ℕ → ℕ
-base zero = 10000
-base (suc m) = 0
-
-pub base_a : (m : ℕ) → m ≡ 0 → base m ≡ 10000
-unfolding base
-base_a zero e = refl
-base_a (suc m) e = absurd (omega (arith, e))
-
-pub base_b : (m : ℕ) → 65534 ≤ m → base m ≡ 0
-unfolding base
-base_b zero h = absurd (omega (arith, h))
-base_b (suc m) h = refl
+abbrev pub base : Option Mark → ℕ
+base None = 10000
+base (Some m) = 0

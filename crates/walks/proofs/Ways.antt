@@ -1,5 +1,5 @@
 -- The way of a walk: what stands at a code, what comes of a plane that cuts the cell or misses it, and the cell on a path.
---     as_mark, as_row               the tree at a mark, and at a row
+--     as_mark, as_leaf, as_row      the tree at a mark, and at a row
 --     walk_cut, walk_fore, walk_aft the walk of a node whose plane cuts the cell, or misses it
 --     second_alone                  B where A's mark decides alone
 --     on_inside                     a cell on a path has a point
@@ -28,11 +28,14 @@ use Rattle.tables.specs.Rows.{plane_at}
 use Rattle.cells.specs.declared.Classified.{Classified}
 use Rattle.cells.specs.Paths.{OnPath, at_box, below, witness_at, Witness, Classes, is_cut, is_front, is_behind, ClassifiedIn, ClassifyIn}
 use Rattle.cells.proofs.Paths.{on_map, on_kept}
+use Rattle.std.specs.Prelude.{Option as Maybe}
+use Rattle.walks.specs.declared.operations.Mark as marks
 use Rattle.walks.specs.declared.rows.Operands.{Operands}
 use Rattle.walks.specs.declared.Reached as Reached
 use Rattle.walks.specs.Standing.{offset, list, walked, number_at, PlaneOfIn, RowIs, Stands, at_mark, at_row}
 use Rattle.walks.specs.Walks.{In, WalkedIn, StandsIn, StepIn, ToCode, StepTold}
-use Rattle.walks.proofs.Marks.{mark_in}
+use Rattle.walks.specs.Marks.{mark_of, mark_code}
+use Rattle.walks.proofs.Marks.{mark_in, mark_same}
 
 -- ---- what stands at a code
 
@@ -57,6 +60,10 @@ as_mark h (at_row r x y) = absurd (omega (arith, h, r.few))
 pub as_row : {xs : List ℤ} {numbers ns : List ℕ} {o r : ℕ} {t : Tree} → r < 65534 → Stands xs numbers ns o r t → RowAt xs numbers ns o r t
 as_row h (at_mark m) = absurd (omega (arith, h, (mark_in m refl).0))
 as_row h (at_row {p = p} {f = f} {b = b} r x y) = record { plane = p; front = f; back = b; is = refl; row = r; front_stands = x; back_stands = y }
+
+-- the tree at the code of a mark is its leaf
+pub as_leaf : {xs : List ℤ} {numbers ns : List ℕ} {o c : ℕ} {t : Tree} (m : marks.Mark) → c ≡ mark_code m → Stands xs numbers ns o c t → t ≡ leaf (mark_of m)
+as_leaf m e s = let a = as_mark (omega (arith, (mark_in (mark_of m) e).0)) s in a.is ∙ ap leaf (mark_same a.met (mark_of m) (sym a.code_is ∙ e))
 
 -- a code is a mark or one of the first thousand rows
 pub code_small : {xs : List ℤ} {numbers ns : List ℕ} {o c : ℕ} {t : Tree} → Stands xs numbers ns o c t → c < 65534 → c < 1000
@@ -118,7 +125,7 @@ on_few h = kept_few (on_kept (λ p q. q.member) h)
 pub plane_of_in : {xs : List ℤ} {numbers ns : List ℕ} {o r : ℕ} {p : Plane} → RowIs xs numbers ns o r p → PlaneOfIn xs numbers ns o r
 plane_of_in h = record { number_in = record { inside = h.inside; numbered = h.numbered }; there = h.there }
 
-module _ {o : Operands} {m : ℕ} {path : List ℤ} {depth : ℕ} {r : ℕ} (h : StepIn o m path depth r) where
+module _ {o : Operands} {m : Maybe marks.Mark} {path : List ℤ} {depth : ℕ} {r : ℕ} (h : StepIn o m path depth r) where
   pub here_row : RowAt o.planes.now o.numbers.now (walked o m) (offset m) r h.tree
   here_row = as_row h.row h.stands
 

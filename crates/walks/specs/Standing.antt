@@ -1,24 +1,25 @@
 -- The trees that stand in the operands' tables.
---     rows_of, offset          the rows that are walked, A's where the mark is 0, else B's; and where the numbers of their planes begin
+--     rows_of, offset          the rows that are walked, A's where no mark is above, else B's; and where the numbers of their planes begin
 --     list                     the joined planes of a table
 --     plane_number             the number of a row's plane in the joined list
 --     walked, number_at        the same of operands
 --     NumberIn, PlaneOfIn      what the functions on a row's plane are given
 --     RowIs, Stands            a row, its plane and its codes; the tree that stands at a code
-use Rattle.std.specs.Prelude.{◌≡◌, List, ℕ, zero, suc, ◌+◌, ◌*◌, ◌/◌, ◌<◌, ℤ, length, get_or}
+use Rattle.std.specs.Prelude.{◌≡◌, List, ℕ, Option, Some, None, ◌+◌, ◌*◌, ◌/◌, ◌<◌, ℤ, length, get_or}
 use Rattle.whole.specs.Members.{◌∈◌}
 use Rattle.scope.specs.Planes.{Plane}
 use Rattle.scope.specs.Solids.{Mark, Tree, leaf, node, mark, number, place}
 use Rattle.tables.specs.Rows.{plane_at, planes_to}
+use Rattle.walks.specs.declared.operations.Mark as marks
 use Rattle.walks.specs.declared.rows.Operands.{Operands}
 
-abbrev pub rows_of : ℕ → List ℕ → List ℕ → List ℕ
-rows_of zero a b = a
-rows_of (suc m) a b = b
+abbrev pub rows_of : Option marks.Mark → List ℕ → List ℕ → List ℕ
+rows_of None a b = a
+rows_of (Some m) a b = b
 
-abbrev pub offset : ℕ → ℕ
-offset zero = 0
-offset (suc m) = 64
+abbrev pub offset : Option marks.Mark → ℕ
+offset None = 0
+offset (Some m) = 64
 
 abbrev pub list : List ℤ → List Plane
 list xs = planes_to xs (length xs / 4)
@@ -27,10 +28,10 @@ unfoldable pub plane_number : List ℕ → ℕ → List ℕ → ℕ → ℕ
 plane_number numbers o ns r = get_or numbers (o + get_or ns (3 * r) 0) 0
 
 -- the rows that are walked, and the number of the plane of one of them
-abbrev pub walked : Operands → ℕ → List ℕ
+abbrev pub walked : Operands → Option marks.Mark → List ℕ
 walked o m = rows_of m o.a.now o.b.now
 
-abbrev pub number_at : Operands → ℕ → ℕ → ℕ
+abbrev pub number_at : Operands → Option marks.Mark → ℕ → ℕ
 number_at o m r = plane_number o.numbers.now (offset m) (walked o m) r
 
 pub record NumberIn (ns numbers : List ℕ) (o r : ℕ) : Type 0 where

@@ -5,28 +5,45 @@
 // answers with the code of its tree and how many rows then stand, or refuses.
 #![tactic(auto)]
 
+mod operations;
 mod rows;
 
 ghost use Rattle.std.specs.Prelude.{◌≡◌, ◌+◌, ◌<◌};
 ghost use Rattle.refusals.specs.Numbers.{numbered};
+ghost use Rattle.walks.specs.Marks.{operation_of, mark_of, above_of, EndsAs};
 ghost use Rattle.walks.specs.Walks.{StepIn, StepTold, SideIn, NodeIn, Did};
 
 use cells::{Classified, classify, opposite, push};
+pub use operations::{Code, Mark, Operation};
 use planes::Meeting;
 use polygons::Room;
 use refusals::Refusal;
-pub use rows::{IN_A, Operands, emit, operated};
-use rows::{close, ended};
-use tables::Solid;
+use rows::close;
+pub use rows::{Operands, emit};
 
 // ---- the kinds
 
-// Where a walk is: the operation, B's root code, and the mark of the leaf of A above it, or 0 in A.
+// Where a walk is: the operation, B's root code, and, in B, the mark of the leaf of A above it.
 #[derive(Clone, Copy)]
 pub struct Turn {
-    pub op: u8,
+    pub op: Operation,
     pub root: u16,
-    pub mark: u16,
+    pub above: Option<Mark>,
+}
+
+impl Turn {
+    // What becomes of the mark m. In B, the operation's mark; in A, the mark that the operation gives whatever B says, or none: B is walked.
+    fn ended(self, m: Mark) -> Option<Mark>
+        ensures { EndsAs (operation_of self.op) (above_of self.above) (mark_of m) result }
+    {
+        match self.above {
+            Some(a) => Some(self.op.mark(a, m)),
+            None => {
+                let alone = self.op.mark(m, Mark::In);
+                (alone == self.op.mark(m, Mark::Out)).then_some(alone)
+            }
+        }
+    }
 }
 
 // How a row's plane lies to a cell: it cuts it at a point, or it misses it and the walk goes on at the code of the cell's side.
@@ -39,14 +56,21 @@ pub enum Reached {
 // ---- rows
 
 // A row in the cell of the path: the place of a cut, or the code of the side that the cell lies on.
-fn step(o: &Operands, mark: u16, path: &[i64], depth: usize, room: &mut Room, row: u16) -> Reached
-    requires { StepIn o.now mark path.now depth row }
-    ensures { StepTold o.now mark path.now depth row result }
+fn step(
+    o: &Operands,
+    above: Option<Mark>,
+    path: &[i64],
+    depth: usize,
+    room: &mut Room,
+    row: u16,
+) -> Reached
+    requires { StepIn o.now above path.now depth row }
+    ensures { StepTold o.now above path.now depth row result }
 {
-    match classify(o.plane_of(mark, row), path, depth, room) {
+    match classify(o.plane_of(above, row), path, depth, room) {
         Classified::Cut(x) => Reached::Cut(x),
-        Classified::Front => Reached::Code(o.front(mark, row)),
-        Classified::Behind => Reached::Code(o.back(mark, row)),
+        Classified::Front => Reached::Code(o.front(above, row)),
+        Classified::Behind => Reached::Code(o.back(above, row)),
     }
 }
 
@@ -68,14 +92,14 @@ fn node_walk(
     requires { NodeIn o.now t path.old depth out.old next row x }
     ensures { Did o.now t path.old path.new depth out.old out.new next row (numbered result) }
 {
-    let p = o.plane_of(t.mark, row);
-    let f = o.front(t.mark, row);
+    let p = o.plane_of(t.above, row);
+    let f = o.front(t.above, row);
     push(path, depth, p, x);
     let (front, n1) = side_walk(o, t, path, depth + 1, room, out, next, f)?;
-    let g = o.back(t.mark, row);
+    let g = o.back(t.above, row);
     push(path, depth, opposite(p), x);
     let (back, n2) = side_walk(o, t, path, depth + 1, room, out, n1, g)?;
-    close(out, n2, o.number_of(t.mark, row), front, back)
+    close(out, n2, o.number_of(t.above, row), front, back)
 }
 
 // What a code becomes in the cell of the path: a row is kept where its plane cuts the cell, else the walk goes on at a child, an earlier row;
@@ -94,17 +118,20 @@ pub fn side_walk(
     requires { SideIn o.now t path.old depth out.old next code }
     ensures { Did o.now t path.old path.new depth out.old out.new next code (numbered result) }
 {
-    if code < Solid::OUT {
-        return match step(o, t.mark, path, depth, room, code) {
-            Reached::Cut(x) => { node_walk(o, t, path, depth, room, out, next, code, x) }
-            Reached::Code(child) => { side_walk(o, t, path, depth, room, out, next, child) }
-        };
-    }
-    match ended(t.op, t.mark, code) {
-        Some(mark) => Ok((mark, next)),
-        None => {
-            let below = Turn { mark: code, ..t };
-            side_walk(o, below, path, depth, room, out, next, t.root)
-        }
+    match Code::from(code) {
+        Code::Row(row) => match step(o, t.above, path, depth, room, row) {
+            Reached::Cut(x) => node_walk(o, t, path, depth, room, out, next, row, x),
+            Reached::Code(child) => side_walk(o, t, path, depth, room, out, next, child),
+        },
+        Code::Mark(m) => match t.ended(m) {
+            Some(mark) => Ok((mark.into(), next)),
+            None => {
+                let below = Turn {
+                    above: Some(m),
+                    ..t
+                };
+                side_walk(o, below, path, depth, room, out, next, t.root)
+            }
+        },
     }
 }

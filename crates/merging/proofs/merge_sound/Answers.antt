@@ -13,15 +13,15 @@ pub planes-requires : goal.planes-requires
 planes-requires c = joined_few c.requires c.of-joined.ensures
 
 pub side_walk-requires : goal.side_walk-requires
-side_walk-requires c = walk_in c.requires c.of-joined.ensures c.planes.result c.planes.ensures _ refl
+side_walk-requires c = walk_in c.args.op c.requires c.of-joined.ensures c.planes.result c.planes.ensures _ refl
 
 pub returns-in_err-root : goal.returns-in_err-root
 returns-in_err-root c =
     let p = err_from_is_err_and c.from_residual.result c.from_residual.ensures.1 in
-    rw (p.1, p.2) (λ o A B s e a b w. put_refused (merged_rows c.requires c.of-joined.ensures c.planes.result c.planes.ensures _ refl c.in_err-root.ensures c.side_walk.auto.out o e a b w) c.args.planes.now refl)
+    rw (p.1, p.2) (λ A B s a b w. put_refused (merged_rows c.args.op c.requires c.of-joined.ensures c.planes.result c.planes.ensures _ refl c.in_err-root.ensures c.side_walk.auto.out a b w) c.args.planes.now refl)
 
 pub put_out-requires : goal.put_out-requires
-put_out-requires c = put_in c.requires c.of-joined.ensures c.planes.result c.planes.ensures _ refl c.in_ok-root.ensures c.side_walk.auto.out
+put_out-requires c = put_in c.args.op c.requires c.of-joined.ensures c.planes.result c.planes.ensures _ refl c.in_ok-root.ensures c.side_walk.auto.out
 
 pub returns : goal.returns
-returns c = λ o A B s e a b w. c.put_out.ensures c.args.nodes.now s (merged_rows c.requires c.of-joined.ensures c.planes.result c.planes.ensures _ refl c.in_ok-root.ensures c.side_walk.auto.out o e a b w)
+returns c = λ A B s a b w. c.put_out.ensures c.args.nodes.now s (merged_rows c.args.op c.requires c.of-joined.ensures c.planes.result c.planes.ensures _ refl c.in_ok-root.ensures c.side_walk.auto.out a b w)

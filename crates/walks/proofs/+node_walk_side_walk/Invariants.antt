@@ -4,7 +4,7 @@ use Rattle.walks.proofs.Rank.{rank, base}
 use Rattle.walks.proofs.+node_walk_side_walk.Given as goal
 
 abbrev pub decreases-node_walk : goal.decreases-node_walk
-decreases-node_walk l = base l.t.mark + (l.row * 2 + 1)
+decreases-node_walk l = base l.t.above + (l.row * 2 + 1)
 
 abbrev pub decreases-side_walk : goal.decreases-side_walk
-decreases-side_walk l = base l.t.mark + rank l.code
+decreases-side_walk l = base l.t.above + rank l.code
