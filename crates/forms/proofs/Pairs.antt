@@ -9,7 +9,6 @@ use native.Mathlib.Omega.{arith}
 use denote.Ref.{Bor}
 use lib.IntN.{ℤ}
 use lib.ListN.{length, take}
-use Rattle.std.specs.Prelude.{Ok}
 use Rattle.scope.specs.Solids.{Tree}
 use Rattle.scope.specs.Cells.{box, operate}
 use Rattle.scope.specs.Normal.{Normal}
@@ -79,7 +78,7 @@ module _ (op : operations.Operation) {a b : LentSolid} {xs : List ℤ} {ns : Lis
         emitted = d.emitted A B s box (box_given u v) w;
       }
 
-    pub put_in : {path'' : List ℤ} {ns' : List ℕ} {root m : ℕ} → Formed rows bs pair path' path'' 0 ns ns' 0 0 (Ok (root, m)) → length ns' ≡ length ns → PutIn list.now xs ns' root m
-    put_in d en =
-        let w = form_both (operate (operation_of op)) h.first_solid.lawful h.second_solid.lawful in
-        record { blank = ns; tree = w.0; rows = form_rows d en h.first h.second w.0 h.first_solid h.second_solid w.1; zeros = h.zeros.planes_zero }
+      pub put_in : PutIn list.now xs ns' z
+      put_in =
+          let w = form_both (operate (operation_of op)) h.first_solid.lawful h.second_solid.lawful in
+          record { blank = ns; tree = w.0; rows = form_rows h.first h.second w.0 h.first_solid h.second_solid w.1; zeros = h.zeros.planes_zero }

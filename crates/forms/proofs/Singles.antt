@@ -1,10 +1,12 @@
 -- The normal form of a single solid, and the refusals in their order.
 --     single_in, single_told           a solid as its union with the empty solid
---     solid_not, solid_sound           the answer at each way out
+--     work_short, solid_not, solid_sound   the answer at each way out
 --     single_given                     what the form of a sound solid is given
 use mathlib.Core.Path.{◌≡◌, refl, sym, subst}
 use mathlib.Core.List.{List, []}
-use Prim.Native.Nat.{ℕ, ◌≤◌}
+use Prim.Native.Nat.{ℕ, ◌≤◌, ◌<◌}
+use lib.Dec.{T}
+use borrow.Author.Tests.{lt-leb}
 use lib.IntN.{ℤ}
 use lib.ListN.{length}
 use Rattle.scope.specs.Limits.{stated}
@@ -12,7 +14,7 @@ use Rattle.scope.specs.Solids.{Tree, OUT, leaf, code, post, ascending, tables_of
 use Rattle.scope.specs.Cells.{box, union, operate}
 use Rattle.scope.specs.Normal.{both, Normal}
 use Rattle.scope.specs.Judging.{judge_lent}
-use Rattle.scope.specs.Answers.{flat_planes, flat_nodes, refused, tree_answer, enough_work, solid_refused, formed}
+use Rattle.scope.specs.Answers.{flat_planes, flat_nodes, refused, tree_answer, short_work, enough_work, solid_refused, formed}
 use Rattle.theory.specs.Theorems.{empty_lawful, form, form_single}
 use Rattle.theory.specs.Text.Lent.{lent}
 use Rattle.std.specs.Prelude.{Result, Ok, Err}
@@ -48,6 +50,9 @@ single_told a xs ns f A s u n = f A (leaf OUT) s u empty_solid (form_single u.la
 module _ (a : LentSolid) where
   abbrev judged_as : Result Solid (ℕ × ℕ)
   judged_as = judgement a.planes.now a.nodes.now a.root (judge_lent (lent a.planes.now a.nodes.now a.root))
+
+  pub work_short : {work : ℕ} {xs xs' : List ℤ} {ns ns' : List ℕ} → work < stated → JudgedTold work a xs xs' ns ns' (Err 8)
+  work_short {work} h = record { answer = refused 8; exact = short_work (λ t. subst T (lt-leb stated work h) t); outcome = nothing_held 8 }
 
   pub solid_not : {work : ℕ} {xs xs' : List ℤ} {ns ns' : List ℕ} {k l : ℕ} → stated ≤ work → Err (k, l) ≡ judged_as → JudgedTold work a xs xs' ns ns' (Err k)
   solid_not {work} {k = k} w e = record { answer = refused k; exact = enough_work (enough work w) (solid_refused (rows_refused a.planes.now a.nodes.now a.root e refl)); outcome = nothing_held k }

@@ -15,14 +15,12 @@ use Rattle.theory.specs.Answers.{lent_sound, solid_lawful}
 use Rattle.theory.specs.Text.Lent.{lent}
 use Rattle.theory.specs.Theorems.{form_points, form_planes}
 use Rattle.tables.specs.declared.Solid.{Solid}
-use Rattle.refusals.specs.declared.Refusal as code
-use Rattle.refusals.specs.Numbers.{numbered}
 use Rattle.results.specs.Results.{form_of, rooms, given_of}
 use Rattle.results.specs.Follows.{told_unique, Refusal, told_refusal, not_refused, tree_given}
 use Rattle.forms.specs.Promises.{NormalTold}
 
 module _ {pa : List ℤ} {na : List ℕ} {ra : ℕ} {xs xs' : List ℤ} {ns ns' : List ℕ} {w w' : List ℤ} where
-  pub normal_told_unique : {xs'' : List ℤ} {ns'' : List ℕ} {w'' : List ℤ} {i j : Result Solid code.Refusal} → NormalTold pa na ra xs xs' ns ns' w w' (numbered i) → NormalTold pa na ra xs xs'' ns ns'' w w'' (numbered j) → (i ≡ j) × (xs' ≡ xs'') × (ns' ≡ ns'') × (w' ≡ w'')
+  pub normal_told_unique : {xs'' : List ℤ} {ns'' : List ℕ} {w'' : List ℤ} {i j : Result Solid ℕ} → NormalTold pa na ra xs xs' ns ns' w w' i → NormalTold pa na ra xs xs'' ns ns'' w w'' j → (i ≡ j) × (xs' ≡ xs'') × (ns' ≡ ns'') × (w' ≡ w'')
   normal_told_unique h k = told_unique h k
 
   pub normal_refusal : {k : ℕ} → NormalTold pa na ra xs xs' ns ns' w w' (Err k) → Refusal (form_of (lent pa na ra)) xs xs' ns ns' w w' k

@@ -35,7 +35,8 @@ fn form_sound(
     requires { SoundIn a.now b.now planes.old nodes.old path.old }
     ensures { BothTold (operation_of op) a.now b.now planes.old planes.new nodes.old nodes.new (numbered result) }
 {
-    let joined = JoinedList::of(a.planes, b.planes);
+    let mut joined = JoinedList::new();
+    joined.join(a.planes, b.planes);
     let o = Operands {
         planes: joined.planes(),
         a: a.nodes,
@@ -50,8 +51,8 @@ fn form_sound(
     let mut room = Room::new();
     let mut boundary = [0u16; 2 * Solid::MOST_PLANES];
     let k = list_boundary(&o, pair, path, &mut room, &mut boundary);
-    let (root, m) = form_cell(&o, &boundary[0..k], pair, path, 0, &mut room, nodes, 0, 0)?;
-    put_out(o.planes, planes, nodes, root, m)
+    let w = form_cell(&o, &boundary[0..k], pair, path, 0, &mut room, nodes, 0, 0);
+    put_out(o.planes, planes, nodes, w)
 }
 
 // ---- a single solid

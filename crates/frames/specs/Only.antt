@@ -3,8 +3,6 @@ use Rattle.std.specs.Prelude.{◌≡◌, refl, List, [], ◌∷◌, ℕ, ℤ, dr
 use Rattle.std.proofs.Common.{sym, ap, ap₂, ◌∙◌}
 use Rattle.whole.specs.Tests.{differ}
 use Rattle.scope.specs.Text.{Frame, bad, head, frames}
-use Rattle.refusals.specs.declared.Refusal.{Refusal}
-use Rattle.refusals.specs.Numbers.{numbered, number_unique}
 use Rattle.frames.specs.Promises.{Refuses, missing, malformed, not_due, Follows, bad_follows, more_follows, IsHead, is_head, IsPlane, is_plane, IsNode, is_node, IsEnd, is_end, IsOperation, is_operation, Reads, HeadTold, OperationTold, EndTold, PlaneTold, NodeTold, AfterTold, Wrote}
 use Rattle.frames.specs.declared.Cursor.{Cursor}
 use Rattle.frames.specs.declared.Head.{Head}
@@ -59,36 +57,36 @@ head_same {h} {k} e =
     λ i. record { planes = p i; nodes = n i; root = r i }
 
 module _ (t : List ℕ) (at : ℕ) where
-  pub head_unique : (r s : Result (Head × Cursor) Refusal) → HeadTold t at (numbered r) → HeadTold t at (numbered s) → r ≡ s
+  pub head_unique : (r s : Result (Head × Cursor) ℕ) → HeadTold t at r → HeadTold t at s → r ≡ s
   head_unique (Ok (h, c)) (Ok (k, d)) i j = ap₂ (λ x y. Ok (x, y)) (head_same (cc (i.first, j.first))) (place_unique i j)
   head_unique (Ok (h, c)) (Err e) i j = absurd (refuses_never no_head i.first is_head j)
   head_unique (Err e) (Ok (k, d)) i j = absurd (refuses_never no_head j.first is_head i)
-  head_unique (Err e) (Err f) i j = ap Err (number_unique (refuses_unique i j))
+  head_unique (Err e) (Err f) i j = ap Err (refuses_unique i j)
 
-  pub operation_unique : (r s : Result (ℕ × Cursor) Refusal) → OperationTold t at (numbered r) → OperationTold t at (numbered s) → r ≡ s
+  pub operation_unique : (r s : Result (ℕ × Cursor) ℕ) → OperationTold t at r → OperationTold t at s → r ≡ s
   operation_unique (Ok (o, c)) (Ok (p, d)) i j = ap₂ (λ x y. Ok (x, y)) (cc (i.first, j.first)) (place_unique i j)
   operation_unique (Ok (o, c)) (Err e) i j = absurd (refuses_never no_operation i.first is_operation j)
   operation_unique (Err e) (Ok (p, d)) i j = absurd (refuses_never no_operation j.first is_operation i)
-  operation_unique (Err e) (Err f) i j = ap Err (number_unique (refuses_unique i j))
+  operation_unique (Err e) (Err f) i j = ap Err (refuses_unique i j)
 
-  pub end_unique : (r s : Result Cursor Refusal) → EndTold t at (numbered r) → EndTold t at (numbered s) → r ≡ s
+  pub end_unique : (r s : Result Cursor ℕ) → EndTold t at r → EndTold t at s → r ≡ s
   end_unique (Ok c) (Ok d) i j = ap Ok (place_unique i j)
   end_unique (Ok c) (Err e) i j = absurd (refuses_never no_end i.first is_end j)
   end_unique (Err e) (Ok d) i j = absurd (refuses_never no_end j.first is_end i)
-  end_unique (Err e) (Err f) i j = ap Err (number_unique (refuses_unique i j))
+  end_unique (Err e) (Err f) i j = ap Err (refuses_unique i j)
 
   module _ (row : ℕ) where
-    pub plane_unique : (ps ps' ps'' : List ℤ) (r s : Result Cursor Refusal) → PlaneTold t at row ps ps' (numbered r) → PlaneTold t at row ps ps'' (numbered s) → (r ≡ s) × (ps' ≡ ps'')
+    pub plane_unique : (ps ps' ps'' : List ℤ) (r s : Result Cursor ℕ) → PlaneTold t at row ps ps' r → PlaneTold t at row ps ps'' s → (r ≡ s) × (ps' ≡ ps'')
     plane_unique ps ps' ps'' (Ok c) (Ok d) i j = (ap Ok (place_unique i.reads j.reads), cc (i.reads.first, j.reads.first, i.table, j.table))
     plane_unique ps ps' ps'' (Ok c) (Err e) i j = absurd (refuses_never no_plane i.reads.first is_plane j.refuses)
     plane_unique ps ps' ps'' (Err e) (Ok d) i j = absurd (refuses_never no_plane j.reads.first is_plane i.refuses)
-    plane_unique ps ps' ps'' (Err e) (Err f) i j = (ap Err (number_unique (refuses_unique i.refuses j.refuses)), i.table ∙ sym j.table)
+    plane_unique ps ps' ps'' (Err e) (Err f) i j = (ap Err (refuses_unique i.refuses j.refuses), i.table ∙ sym j.table)
 
-    pub node_unique : (ns ns' ns'' : List ℕ) (r s : Result Cursor Refusal) → NodeTold t at row ns ns' (numbered r) → NodeTold t at row ns ns'' (numbered s) → (r ≡ s) × (ns' ≡ ns'')
+    pub node_unique : (ns ns' ns'' : List ℕ) (r s : Result Cursor ℕ) → NodeTold t at row ns ns' r → NodeTold t at row ns ns'' s → (r ≡ s) × (ns' ≡ ns'')
     node_unique ns ns' ns'' (Ok c) (Ok d) i j = (ap Ok (place_unique i.reads j.reads), cc (i.reads.first, j.reads.first, i.table, j.table))
     node_unique ns ns' ns'' (Ok c) (Err e) i j = absurd (refuses_never no_node i.reads.first is_node j.refuses)
     node_unique ns ns' ns'' (Err e) (Ok d) i j = absurd (refuses_never no_node j.reads.first is_node i.refuses)
-    node_unique ns ns' ns'' (Err e) (Err f) i j = (ap Err (number_unique (refuses_unique i.refuses j.refuses)), i.table ∙ sym j.table)
+    node_unique ns ns' ns'' (Err e) (Err f) i j = (ap Err (refuses_unique i.refuses j.refuses), i.table ∙ sym j.table)
 
   follows_unique : {m n : ℕ} → Follows (frames (drop at t)) m → Follows (frames (drop at t)) n → m ≡ n
   follows_unique (bad_follows e) (bad_follows f) = refl
@@ -100,11 +98,11 @@ module _ (t : List ℕ) (at : ℕ) where
   follows_never e (bad_follows f) = differ (cc)
   follows_never e (more_follows f h) = differ (cc)
 
-  pub after_unique : (r s : Result (Unit {0}) Refusal) → AfterTold t at (numbered r) → AfterTold t at (numbered s) → r ≡ s
+  pub after_unique : (r s : Result (Unit {0}) ℕ) → AfterTold t at r → AfterTold t at s → r ≡ s
   after_unique (Ok u) (Ok v) i j = refl
   after_unique (Ok u) (Err e) i j = absurd (follows_never i j)
   after_unique (Err e) (Ok u) i j = absurd (follows_never j i)
-  after_unique (Err e) (Err f) i j = ap Err (number_unique (follows_unique i j))
+  after_unique (Err e) (Err f) i j = ap Err (follows_unique i j)
 
 -- ---- writing
 

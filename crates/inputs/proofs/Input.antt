@@ -1,10 +1,10 @@
 -- From the promises of the calls to scope's `judge_merge`.
 --     lent_rooms, solid_held                  a solid in tables that have room for every operand
---     last_refused, last_told                 the last solid, and nothing after it
+--     last_told                               the last solid, and nothing after it
 --     none_is, over_is, known_is, unknown     the operation's number
 --     first_refused, second_refused, both_read   A, then B
 --     text_long, no_operation, order_told     a text
-use mathlib.Core.Path.{◌≡◌, refl, sym, ap, subst, ◌∙◌}
+use mathlib.Core.Path.{◌≡◌, refl, ap, subst, ◌∙◌}
 use mathlib.Core.Bool.{Bool, true, false, cond}
 use mathlib.Core.List.{List}
 use mathlib.Core.Logic.{◌≢◌}
@@ -24,7 +24,7 @@ use Rattle.frames.specs.Follows.{operation_refuses}
 use Rattle.std.specs.Prelude.{Result, Ok, Err}
 use Rattle.tables.specs.declared.Solid.{Solid}
 use Rattle.lines.specs.declared.SolidRead.{SolidRead}
-use Rattle.solids.specs.Finish.{Finished, at_end, more}
+use Rattle.solids.specs.Finish.{Finished, not_read, at_end, more}
 use Rattle.lines.specs.Reading.{rooms, WholeSolid, SolidTold}
 use Rattle.lines.proofs.Whole.{finish_read, finish_more, finish_refused}
 use Rattle.inputs.specs.declared.Order.{Order}
@@ -42,13 +42,11 @@ solid_held q = record { counts = q.counts; planes = q.plane_table; nodes = q.nod
 -- ---- the last solid
 
 module _ (t : List ℕ) (from l : ℕ) {a : Rooms} (xs : List ℤ) (ns : List ℕ) (ea : a ≡ operand_rooms) where
-  pub last_refused : {k j : ℕ} → SolidTold t from l a xs ns (Err (k, j)) → LastTold t from l xs ns (Err (k, j))
-  last_refused {k} {j} h = finish_refused (subst (λ a. SolidTold t from l a xs ns (Err (k, j))) ea h)
-
-  pub last_told : {r : SolidRead} {j : Result Solid (ℕ × ℕ)} → Finished t r j → SolidTold t from l a xs ns (Ok r) → LastTold t from l xs ns j
-  last_told {r} f h = by f (subst (λ a. SolidTold t from l a xs ns (Ok r)) ea h)
+  pub last_told : {r : Result SolidRead (ℕ × ℕ)} {j : Result Solid (ℕ × ℕ)} → Finished t r j → SolidTold t from l a xs ns r → LastTold t from l xs ns j
+  last_told {r} f h = by f (subst (λ a. SolidTold t from l a xs ns r) ea h)
     where
-      by : {j : Result Solid (ℕ × ℕ)} → Finished t r j → SolidTold t from l operand_rooms xs ns (Ok r) → LastTold t from l xs ns j
+      by : {r : Result SolidRead (ℕ × ℕ)} {j : Result Solid (ℕ × ℕ)} → Finished t r j → SolidTold t from l operand_rooms xs ns r → LastTold t from l xs ns j
+      by not_read h = finish_refused h
       by (at_end e) h = record { is = h.is; held = solid_held h; sound = finish_read h.reading e }
       by (more e) h = finish_more h.reading e
 

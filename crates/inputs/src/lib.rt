@@ -31,7 +31,7 @@ fn read_last(
     ensures { LastTold text.now from.cursor.at from.line planes.new nodes.new (lined result) }
 {
     zeros::clear(work);
-    let r = lines::read_solid(text, from, planes, nodes, work)?;
+    let r = lines::read_solid(text, from, planes, nodes, work);
     solids::finished(text, r)
 }
 

@@ -1,7 +1,7 @@
 // Plane lists: those of two solids joined into one, and the planes that rows still use listed anew.
 #![tactic(auto)]
 
-ghost use Rattle.std.specs.Prelude.{◌≡◌, ◌*◌, ◌/◌, ◌≤◌, length, take};
+ghost use Rattle.std.specs.Prelude.{◌≡◌, ◌*◌, ◌/◌, ◌≤◌, pos, length, take, replicate};
 ghost use Rattle.refusals.specs.Numbers.{numbered};
 ghost use Rattle.lists.specs.Lists.{JoinIn, JoinTold, ListIn, ListTold};
 ghost use Rattle.lists.specs.Steps.{NextIn, Sooner, TakeIn, TakeTold, MarkIn, MarkTold, RankIn, RankTold, PutIn, Puts, NumberIn, Numbered};
@@ -44,21 +44,27 @@ fn sooner(a: &[i64], b: &[i64], t: Taken) -> Ordering
 }
 
 impl JoinedList {
-    // The planes of A and B, joined.
-    pub fn of(a: &[i64], b: &[i64]) -> JoinedList
-        requires { JoinIn a.now b.now }
-        ensures { JoinTold a.now b.now result }
+    // No planes, and zeros.
+    pub fn new() -> JoinedList
+        ensures { result ≡ record { planes = replicate 512 (pos 0); numbers = replicate 128 0; count = 0 } }
     {
-        let mut list = JoinedList {
+        JoinedList {
             planes: [0; 2 * 4 * Solid::MOST_PLANES],
             numbers: [0; 2 * Solid::MOST_PLANES],
             count: 0,
-        };
+        }
+    }
+
+    // The planes of A and B, joined here in place of what was here before.
+    pub fn join(&mut self, a: &[i64], b: &[i64])
+        requires { JoinIn a.now b.now }
+        ensures { JoinTold a.now b.now self.new }
+    {
+        self.count = 0;
         let mut t = Taken { a: 0, b: 0 };
         while t.a < a.len() / 4 || t.b < b.len() / 4 {
-            t = list.take(a, b, t);
+            t = self.take(a, b, t);
         }
-        list
     }
 
     // The table of the joined planes.

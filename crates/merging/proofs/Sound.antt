@@ -9,7 +9,7 @@ use native.Mathlib.Omega.{arith}
 use denote.Ref.{Bor}
 use lib.IntN.{ℤ}
 use lib.ListN.{length, take}
-use Rattle.std.specs.Prelude.{None, Ok}
+use Rattle.std.specs.Prelude.{None}
 use Rattle.scope.specs.Solids.{Tree}
 use Rattle.scope.specs.Cells.{box, Merged}
 use Rattle.theory.specs.Theorems.{merge, merge_planes}
@@ -51,8 +51,7 @@ module _ (op : operations.Operation) {a b : LentSolid} {xs : List ℤ} {ns : Lis
       emitted = d.emitted A B s box (stands_a u v j e f) (stands_b u v j e f) at_box w;
     }
 
-pub put_in : (op : operations.Operation) {a b : LentSolid} {xs : List ℤ} {ns : List ℕ} {path : List ℤ} (h : SoundIn a b xs ns path) {l : JoinedList} (j : JoinTold a.planes.now b.planes.now l) (list : Bor (List ℤ)) (e : list.now ≡ take (4 * l.count) l.planes) (numbers : Bor (List ℕ)) (f : numbers.now ≡ l.numbers) {path' : List ℤ} {ns' : List ℕ} {root m : ℕ}
-    → Did (both_rows a b list numbers) (record { op = op; root = b.root; above = None }) path path' 0 ns ns' 0 a.root (Ok (root, m)) → length ns' ≡ length ns → PutIn list.now xs ns' root m
-put_in op {ns = ns} h j list e numbers f d en =
-    let s = merge (operation_of op) h.first_solid.lawful h.second_solid.lawful in
-    record { blank = ns; tree = s.0; rows = merged_rows op h j list e numbers f d en h.first_solid h.second_solid s.1; zeros = h.zeros.planes_zero }
+    pub put_in : PutIn list.now xs ns' z
+    put_in =
+        let s = merge (operation_of op) h.first_solid.lawful h.second_solid.lawful in
+        record { blank = ns; tree = s.0; rows = merged_rows h.first_solid h.second_solid s.1; zeros = h.zeros.planes_zero }

@@ -1,18 +1,19 @@
 -- The refusals of a merge in their order.
---     not_known, a_not, b_not, both_sound   the answer at each way out
+--     work_short, not_known, a_not, b_not, both_sound   the answer at each way out
 --     sound_in                        what the merge of two sound solids is given
 use mathlib.Core.Path.{◌≡◌, refl, sym, subst}
 use mathlib.Core.Logic.{◌≢◌}
 use mathlib.Core.List.{List}
-use Prim.Native.Nat.{ℕ, ◌≤◌}
+use Prim.Native.Nat.{ℕ, ◌≤◌, ◌<◌}
 use lib.Dec.{T}
+use borrow.Author.Tests.{lt-leb}
 use lib.IntN.{ℤ}
 use lib.ListN.{length}
 use Rattle.scope.specs.Limits.{stated}
 use Rattle.scope.specs.Cells.{Operation, union, intersection, difference}
 use Rattle.scope.specs.Text.{operation_code}
 use Rattle.scope.specs.Judging.{known, judge_lent}
-use Rattle.scope.specs.Answers.{refused, tree_answer, enough_work, no_operation, a_refused, b_refused, merged}
+use Rattle.scope.specs.Answers.{refused, tree_answer, short_work, enough_work, no_operation, a_refused, b_refused, merged}
 use Rattle.theory.specs.Theorems.{merge}
 use Rattle.theory.specs.Text.Lent.{lent}
 use Rattle.theory.specs.Text.MergeInput.{operation_of}
@@ -39,6 +40,9 @@ judged_as a = judgement a.planes.now a.nodes.now a.root (judge_lent (lent a.plan
 
 is_known : {op : ℕ} (o : Operation) → op ≡ operation_code o → T (known op)
 is_known o e = subst (λ n. T (known n)) (sym e) (code_known o)
+
+pub work_short : {work op : ℕ} (a b : LentSolid) {xs xs' : List ℤ} {ns ns' : List ℕ} → work < stated → JudgedTold work op a b xs xs' ns ns' (Err 8)
+work_short {work} a b h = record { answer = refused 8; exact = short_work (λ t. subst T (lt-leb stated work h) t); outcome = nothing_held 8 }
 
 module _ {work op : ℕ} (a b : LentSolid) {xs : List ℤ} {ns : List ℕ} (w : stated ≤ work) where
   pub not_known : {xs' : List ℤ} {ns' : List ℕ} → ((o : Operation) → op ≢ operation_code o) → JudgedTold work op a b xs xs' ns ns' (Err 7)

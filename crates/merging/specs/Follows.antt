@@ -15,14 +15,12 @@ use Rattle.theory.specs.Cells.Walk.{Tight}
 use Rattle.theory.specs.Text.Lent.{lent}
 use Rattle.theory.specs.Theorems.{merge_points, merge_tight, merge_rows}
 use Rattle.tables.specs.declared.Solid.{Solid}
-use Rattle.refusals.specs.declared.Refusal as code
-use Rattle.refusals.specs.Numbers.{numbered}
 use Rattle.results.specs.Results.{merge_of, rooms, given_of}
 use Rattle.results.specs.Follows.{told_unique, Refusal, told_refusal, not_refused, tree_given}
 use Rattle.merging.specs.Promises.{MergeTold}
 
 module _ {op : ℕ} {pa : List ℤ} {na : List ℕ} {ra : ℕ} {pb : List ℤ} {nb : List ℕ} {rb : ℕ} {xs xs' : List ℤ} {ns ns' : List ℕ} {w w' : List ℤ} where
-  pub merge_told_unique : {xs'' : List ℤ} {ns'' : List ℕ} {w'' : List ℤ} {i j : Result Solid code.Refusal} → MergeTold op pa na ra pb nb rb xs xs' ns ns' w w' (numbered i) → MergeTold op pa na ra pb nb rb xs xs'' ns ns'' w w'' (numbered j) → (i ≡ j) × (xs' ≡ xs'') × (ns' ≡ ns'') × (w' ≡ w'')
+  pub merge_told_unique : {xs'' : List ℤ} {ns'' : List ℕ} {w'' : List ℤ} {i j : Result Solid ℕ} → MergeTold op pa na ra pb nb rb xs xs' ns ns' w w' i → MergeTold op pa na ra pb nb rb xs xs'' ns ns'' w w'' j → (i ≡ j) × (xs' ≡ xs'') × (ns' ≡ ns'') × (w' ≡ w'')
   merge_told_unique h k = told_unique h k
 
   pub merge_refusal : {k : ℕ} → MergeTold op pa na ra pb nb rb xs xs' ns ns' w w' (Err k) → Refusal (merge_of op (lent pa na ra) (lent pb nb rb)) xs xs' ns ns' w w' k

@@ -32,7 +32,8 @@ fn merge_sound(
     requires { SoundIn a.now b.now planes.old nodes.old path.old }
     ensures { SoundTold (operation_of op) a.now b.now planes.old planes.new nodes.old nodes.new (numbered result) }
 {
-    let joined = JoinedList::of(a.planes, b.planes);
+    let mut joined = JoinedList::new();
+    joined.join(a.planes, b.planes);
     let o = Operands {
         planes: joined.planes(),
         a: a.nodes,
@@ -44,8 +45,8 @@ fn merge_sound(
         root: b.root,
         above: None,
     };
-    let (root, m) = side_walk(&o, t, path, 0, &mut Room::new(), nodes, 0, a.root)?;
-    put_out(o.planes, planes, nodes, root, m)
+    let w = side_walk(&o, t, path, 0, &mut Room::new(), nodes, 0, a.root);
+    put_out(o.planes, planes, nodes, w)
 }
 
 // ---- what is refused first

@@ -5,7 +5,7 @@
 --     Gave               an answer, and its tables as a call left them
 --     RowsIn, RowsLent   a solid's rows, lent
 --     WriteIn, WriteTold the answer's text
-use Rattle.std.specs.Prelude.{◌≡◌, cond, List, ℕ, ◌-◌, ◌*◌, ◌≤◌, leb, ℤ, pos, length, take, replicate, Result, Ok, Err}
+use Rattle.std.specs.Prelude.{◌≡◌, cond, List, ℕ, ◌-◌, ◌*◌, ◌≤◌, leb, ℤ, pos, length, take, replicate, Result, Err}
 use Rattle.scope.specs.Limits.{stated}
 use Rattle.scope.specs.Solids.{Tables}
 use Rattle.scope.specs.Text.{text}
@@ -19,8 +19,8 @@ abbrev pub in_room : ℕ → Answer Tables → Answer (List ℕ)
 in_room room (given a) = cond (leb (length (text a)) room) (given (text a)) (refused 8)
 in_room room (refused k) = refused k
 
--- a number, and a text of zeros
-pub record Refuses (k : ℕ) (out out' : List ℕ) (r : Result ℕ ℕ) : Type 0 where
+-- the refusal, as a number or as the code has it, and a text of zeros
+pub record Refuses {E : Type 0} (k : E) (out out' : List ℕ) (r : Result ℕ E) : Type 0 where
   pub number : r ≡ Err k
   pub text : out' ≡ replicate (length out) 0
 
@@ -34,13 +34,13 @@ pub record Gave (answer : Answer Tables) (xs : List ℤ) (ns : List ℕ) (g : Re
   pub nodes : ns ≡ left 0 (length ns) node_numbers answer
   pub lawful : (a : Tables) → answer ≡ given a → LawfulTables a
 
-pub record WriteIn (s : Solid) (xs : List ℤ) (ns : List ℕ) (w : List ℤ) : Type 0 where
+pub record WriteIn (g : Result Solid ℕ) (xs : List ℤ) (ns : List ℕ) (w : List ℤ) : Type 0 where
   pub answer : Answer Tables
-  pub gave : Gave answer xs ns (Ok s)
+  pub gave : Gave answer xs ns g
   pub enough : stated ≤ length w
 
-abbrev pub WriteTold : Solid → List ℤ → List ℕ → List ℕ → List ℕ → Result ℕ ℕ → Type 0
-WriteTold s xs ns out out' r = (answer : Answer Tables) → Gave answer xs ns (Ok s) → Outcome (in_room (length out) answer) out out' r
+abbrev pub WriteTold : Result Solid ℕ → List ℤ → List ℕ → List ℕ → List ℕ → Result ℕ ℕ → Type 0
+WriteTold g xs ns out out' r = (answer : Answer Tables) → Gave answer xs ns g → Outcome (in_room (length out) answer) out out' r
 
 -- tables that have room for a solid's rows
 pub record RowsIn (s : Solid) (xs : List ℤ) (ns : List ℕ) : Type 0 where

@@ -305,7 +305,7 @@ impl Point {
 }
 
 // Whether x/w lies strictly between -REACH and REACH. REACH*w is at most 3*10^14, and the sums at most 1.3*10^15.
-fn between(x: i64, w: i64) -> bool
+pub fn between(x: i64, w: i64) -> bool
     requires { AxisIn x w }
     ensures { result ≡ the-between x w }
 {
@@ -329,7 +329,7 @@ pub fn minors(p: Plane, q: Plane, r: Plane) -> Meeting
 }
 
 // Whether three planes are in range.
-fn three_ranged(p: Plane, q: Plane, r: Plane) -> bool
+pub fn three_ranged(p: Plane, q: Plane, r: Plane) -> bool
     ensures { result ≡ three_in_range p q r }
 {
     p.ranged() && q.ranged() && r.ranged()
@@ -379,7 +379,7 @@ pub fn coincident(p: Plane, q: Plane) -> Result<bool, Fault>
 }
 
 #[tactic(auto, unfolding(scope::specs::Planes::coincident))]
-fn all_minors_zero(p: Plane, q: Plane) -> bool
+pub fn all_minors_zero(p: Plane, q: Plane) -> bool
     requires { TwoIn p q }
     ensures { result ≡ the-coincident (plane p) (plane q) }
 {

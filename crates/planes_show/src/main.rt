@@ -380,7 +380,7 @@ fn show(out: &mut Out) -> fmt::Result {
     show_coincidences(out)
 }
 
-// A line that is not taken ends the rest.
+// A line that is not taken is left out, and the rest is printed.
 fn main() {
     let _ = show(&mut Out);
 }

@@ -1,8 +1,6 @@
 -- No second answer meets the promise of the public call: `tells_unique`, one answer, by the theory's `point_unique`, and one work table.
 use Rattle.std.specs.Prelude.{◌≡◌, refl, List, ℕ, ℤ, Result, Ok, Err}
 use Rattle.std.proofs.Common.{sym, ap, ◌∙◌}
-use Rattle.refusals.specs.Numbers.{numbered, numbered_unique}
-use Rattle.refusals.specs.declared.Refusal.{Refusal}
 use Rattle.scope.specs.Planes.{Point}
 use Rattle.scope.specs.Solids.{Reply}
 use Rattle.scope.specs.Answers.{Answer, given, refused}
@@ -24,6 +22,6 @@ answered_back (Ok On) = refl
 answered_back (Err k) = refl
 
 module _ {xs : List ℤ} {ns : List ℕ} {r : ℕ} {w u v : List ℤ} where
-  pub tells_unique : {X : Point} {a b : Result Place Refusal} → Tells xs ns r X w u (numbered a) → Tells xs ns r X w v (numbered b) → (a ≡ b) × (u ≡ v)
+  pub tells_unique : {X : Point} {a b : Result Place ℕ} → Tells xs ns r X w u a → Tells xs ns r X w v b → (a ≡ b) × (u ≡ v)
   tells_unique {X} {a} {b} h k =
-      (numbered_unique (sym (answered_back (numbered a)) ∙ ap answered (point_unique (lent xs ns r) X h.answer k.answer) ∙ answered_back (numbered b)), h.zeros ∙ sym k.zeros)
+      (sym (answered_back a) ∙ ap answered (point_unique (lent xs ns r) X h.answer k.answer) ∙ answered_back b, h.zeros ∙ sym k.zeros)

@@ -9,8 +9,8 @@ use Prim.Native.Nat.{ℕ, zero, suc, ◌-◌, ◌*◌, ◌≤◌, ◌<◌}
 use native.Mathlib.Omega.{arith}
 use lib.Dec.{T}
 use lib.IntN.{ℤ, pos}
-use lib.ListN.{length, get_or, take, drop, length-append, length-drop, get_or-append}
-use lib.Seq.{get_or_at, get_or-take, length-take-le}
+use lib.ListN.{length, get_or, length-append, get_or-append}
+use lib.Seq.{get_or_at}
 use Rattle.whole.specs.Sign.{Sign, plus, sgn}
 use Rattle.whole.specs.Lists.{Each, Each.none, Each.◌and◌, each_app, each_map, map_length}
 use Rattle.scope.specs.Planes.{Plane, at, in_range}
@@ -144,11 +144,8 @@ module _ (s : Plane) (hs : List ℤ) (width k : ℕ) (t : List ℤ) (n : ℕ) (o
   on_gone e = record { room = omega arith; held = read_none t ∙ ap (corners s plane_of) (sym e) }
 
   -- what was put out into u, copied over the first corners
-  on_cut : (u : List ℤ) (m : ℕ) → 675 ≤ length u → m ≤ 134 → read u m ≡ corners s plane_of clipped → ClippedOn s plane_of k t n (take (5 * m) u ++ drop (5 * m) t) m
-  on_cut u m b l q = record {
-    room = omega (arith, a.room, length-append (take (5 * m) u) (drop (5 * m) t), length-take-le (5 * m) u (omega arith), length-drop (5 * m) t);
-    held = read_same (take (5 * m) u ++ drop (5 * m) t) u m (λ j i. get_or-append (take (5 * m) u) (drop (5 * m) t) (pos 0) j (omega (arith, length-take-le (5 * m) u (omega arith))) ∙ get_or-take (5 * m) u j (pos 0) i) ∙ q;
-  }
+  on_cut : (u t' : List ℤ) (m : ℕ) → m ≤ 134 → read u m ≡ corners s plane_of clipped → length t' ≡ length t → ((j : ℕ) → j < 5 * m → get_or t' j (pos 0) ≡ get_or u j (pos 0)) → ClippedOn s plane_of k t n t' m
+  on_cut u t' m b q l f = record { room = omega (arith, a.room); held = read_same t' u m f ∙ q }
 
   -- ---- by the sides
 
@@ -224,8 +221,8 @@ module _ (s : Plane) (hs : List ℤ) (width k : ℕ) (t : List ℤ) (n : ℕ) (o
         few = put_few;
       }
 
-      pub clip_cut : (out' : List ℤ) (m : ℕ) → Emitted s plane_of k t sides out' m → 675 ≤ length out' → ClippedOn s plane_of k t n (take (5 * m) out' ++ drop (5 * m) t) m
-      clip_cut out' m e b = on_cut out' m b e.few (e.read_is ∙ put_clip)
+      pub clip_cut : (out' t' : List ℤ) (m : ℕ) → Emitted s plane_of k t sides out' m → length t' ≡ length t → ((j : ℕ) → j < 5 * m → get_or t' j (pos 0) ≡ get_or out' j (pos 0)) → ClippedOn s plane_of k t n t' m
+      clip_cut out' t' m e l f = on_cut out' t' m e.few (e.read_is ∙ put_clip) l f
 
   -- after the clip the table holds the polygon of one clip more
   module _ (t' : List ℤ) (r : ℕ) (c : ClippedOn s plane_of k t n t' r) where

@@ -9,7 +9,7 @@ ghost use Rattle.polygons.specs.Asked.{side_of, SideIn, Looked, CornerIn, Puts, 
 
 use crate::codes::said;
 use crate::lines::{line, on_line};
-use crate::table::{index_at, put, vertex_at};
+use crate::table::{copy, index_at, put, vertex_at};
 use crate::{Halves, Place, Signal};
 use planes::{Plane, Side};
 
@@ -151,6 +151,6 @@ pub fn clip_on(s: Plane, hs: &Halves, k: usize, t: &mut [i64], n: usize, out: &m
         by: k,
     };
     let m = clip.emit(t, sides, out);
-    t[..5 * m].copy_from_slice(&out[..5 * m]);
+    copy(out, t, 5 * m);
     m
 }

@@ -1,5 +1,5 @@
 // Tables: the half-spaces in rows, the bound of an index, the corners of a polygon.
-ghost use Rattle.std.specs.Prelude.{◌≡◌, [], ◌∷◌, ◌+◌, ◌*◌, ◌<◌, ◌≤◌, pos, length};
+ghost use Rattle.std.specs.Prelude.{◌≡◌, [], ◌∷◌, ℕ, ◌+◌, ◌*◌, ◌<◌, ◌≤◌, pos, length, get_or};
 ghost use Rattle.std.proofs.lemmas.List.Edits.{sets};
 ghost use Rattle.theory.specs.Section.{index, vertex};
 ghost use Rattle.theory.specs.Section.Witness.{added as the-added};
@@ -117,6 +117,16 @@ pub fn put(t: &mut [i64], i: usize, k: usize, m: Meeting)
     t[at + 2] = m.y;
     t[at + 3] = m.z;
     t[at + 4] = m.w;
+}
+
+// The first n numbers of one table, copied to another. By a loop: `copy_from_slice` would have the archive for C call memmove.
+pub fn copy(from: &[i64], to: &mut [i64], n: usize)
+    requires { (n ≤ length from.now) × (n ≤ length to.old) }
+    ensures { (j : ℕ) → j < n → get_or to.new j (pos 0) ≡ get_or from.now j (pos 0) }
+{
+    for i in 0..n {
+        to[i] = from[i];
+    }
 }
 
 // Three vertices, added: each sum is at most 1.8*10^15 in size, and 1.8*10^10 for w.

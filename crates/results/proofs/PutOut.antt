@@ -1,7 +1,7 @@
 -- The rows of a tree as the tables of a solid, from the answers of the parts.
 --     put_refused                 what comes of a walk that has no room
 --     list_in                     what the listing is given
---     put_listed, put_not_listed  what comes of it
+--     put_listed, put_not_listed  what comes of the listing, after a walk that has room
 use mathlib.Core.Path.{◌≡◌, refl, sym, ap, subst, ◌∙◌}
 use mathlib.Core.Bool.{Bool, true, false, cond}
 use mathlib.Core.List.{List, []}
@@ -149,5 +149,5 @@ module _ {xs : List ℤ} {blank nodes : List ℕ} {z : Walked} {s : Tree} (h : R
 
 -- ---- what the listing is given
 
-pub list_in : {xs ps : List ℤ} {ns : List ℕ} {root m : ℕ} → PutIn xs ps ns root m → ListIn xs ps ns m
-list_in {xs} h = record { list = list xs; entries = _; held = holds_rows h.rows (got refl h.rows.emitted); zeros = h.zeros }
+pub list_in : {xs ps : List ℤ} {ns : List ℕ} {w : Walked} {root m : ℕ} → PutIn xs ps ns w → w ≡ Ok (root, m) → ListIn xs ps ns m
+list_in {xs} h e = record { list = list xs; entries = _; held = holds_rows h.rows (got e h.rows.emitted); zeros = h.zeros }

@@ -12,8 +12,6 @@ use Rattle.scope.specs.Judging.{Rooms}
 use Rattle.scope.specs.Answers.{Answer, given, refused, plane_numbers, node_numbers, filled, left, fits_rooms, tree_answer}
 use Rattle.tables.specs.declared.Solid.{Solid}
 use Rattle.theory.specs.Answers.{merge_answer_unique, form_answer_unique}
-use Rattle.refusals.specs.declared.Refusal as code
-use Rattle.refusals.specs.Numbers.{numbered, numbered_unique}
 use Rattle.results.specs.Results.{Asked, merge_of, form_of, Right, rooms, given_of, Told}
 
 right_unique : (q : Asked) (work : ℕ) (s : Rooms) {a b : Answer Tables} → Right q work s a → Right q work s b → a ≡ b
@@ -21,10 +19,10 @@ right_unique (merge_of o A B) work s = merge_answer_unique s o A B
 right_unique (form_of A) work s = form_answer_unique s A
 
 module _ {q : Asked} {xs : List ℤ} {ns : List ℕ} {w : List ℤ} where
-  pub told_unique : {xs' xs'' : List ℤ} {ns' ns'' : List ℕ} {w' w'' : List ℤ} {i j : Result Solid code.Refusal} → Told q xs xs' ns ns' w w' (numbered i) → Told q xs xs'' ns ns'' w w'' (numbered j) → (i ≡ j) × (xs' ≡ xs'') × (ns' ≡ ns'') × (w' ≡ w'')
+  pub told_unique : {xs' xs'' : List ℤ} {ns' ns'' : List ℕ} {w' w'' : List ℤ} {i j : Result Solid ℕ} → Told q xs xs' ns ns' w w' i → Told q xs xs'' ns ns'' w w'' j → (i ≡ j) × (xs' ≡ xs'') × (ns' ≡ ns'') × (w' ≡ w'')
   told_unique h k =
       let e : h.answer ≡ k.answer = right_unique q (length w) (rooms xs ns) h.exact k.exact in
-      (numbered_unique (h.told ∙ ap given_of e ∙ sym k.told), h.planes ∙ ap (left (pos 0) (length xs) plane_numbers) e ∙ sym k.planes, h.nodes ∙ ap (left 0 (length ns) node_numbers) e ∙ sym k.nodes, h.work ∙ sym k.work)
+      (h.told ∙ ap given_of e ∙ sym k.told, h.planes ∙ ap (left (pos 0) (length xs) plane_numbers) e ∙ sym k.planes, h.nodes ∙ ap (left 0 (length ns) node_numbers) e ∙ sym k.nodes, h.work ∙ sym k.work)
 
 -- ---- a refusal
 

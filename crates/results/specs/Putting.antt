@@ -1,7 +1,7 @@
 -- The rows of a tree, put out as the tables of a solid.
 --     RowsOf              what a walk left: a tree's rows with the numbers of the joined list, in a table of zeros; or 8
---     PutIn, PutTold      the solid that comes of those of a walk that is done
-use Rattle.std.specs.Prelude.{◌≡◌, List, ℕ, ◌≤◌, ℤ, pos, length, replicate, Result, Ok}
+--     PutIn, PutTold      the solid that comes of them
+use Rattle.std.specs.Prelude.{◌≡◌, List, ℕ, ◌≤◌, ℤ, pos, length, replicate, Result}
 use Rattle.whole.specs.Members.{◌∈◌}
 use Rattle.scope.specs.Planes.{Plane}
 use Rattle.scope.specs.Solids.{Tree, planes}
@@ -25,11 +25,11 @@ pub record RowsOf (xs : List ℤ) (blank ns : List ℕ) (w : Walked) (s : Tree) 
   pub long : length ns ≡ length blank
   pub emitted : Emitted (list xs) blank ns 0 s w
 
-pub record PutIn (xs planes : List ℤ) (ns : List ℕ) (root m : ℕ) : Type 0 where
+pub record PutIn (xs planes : List ℤ) (ns : List ℕ) (w : Walked) : Type 0 where
   pub blank : List ℕ
   pub tree : Tree
-  pub rows : RowsOf xs blank ns (Ok (root, m)) tree
+  pub rows : RowsOf xs blank ns w tree
   pub zeros : planes ≡ replicate (length planes) (pos 0)
 
-abbrev pub PutTold : List ℤ → List ℤ → List ℤ → List ℕ → List ℕ → ℕ → ℕ → Result Solid ℕ → Type 0
-PutTold xs planes planes' ns ns' root m r = (blank : List ℕ) (s : Tree) → RowsOf xs blank ns (Ok (root, m)) s → Outcome (tree_answer (rooms planes blank) s) planes' ns' r
+abbrev pub PutTold : List ℤ → List ℤ → List ℤ → List ℕ → List ℕ → Walked → Result Solid ℕ → Type 0
+PutTold xs planes planes' ns ns' w r = (blank : List ℕ) (s : Tree) → RowsOf xs blank ns w s → Outcome (tree_answer (rooms planes blank) s) planes' ns' r

@@ -13,17 +13,17 @@ use tables::Solid;
 
 // ---- a result put out
 
-// The m rows of a tree with that root code, which a walk put out, made the tables of a solid: the planes that they use become its list.
+// The rows that a walk put out, made the tables of a solid: the planes that they use become its list. A walk's refusal is handed on.
 pub fn put_out(
     list: &[i64],
     planes: &mut [i64],
     nodes: &mut [u16],
-    root: u16,
-    m: usize,
+    w: Result<(u16, usize), Refusal>,
 ) -> Result<Solid, Refusal>
-    requires { PutIn list.now planes.old nodes.old root m }
-    ensures { PutTold list.now planes.old planes.new nodes.old nodes.new root m (numbered result) }
+    requires { PutIn list.now planes.old nodes.old (numbered w) }
+    ensures { PutTold list.now planes.old planes.new nodes.old nodes.new (numbered w) (numbered result) }
 {
+    let (root, m) = w?;
     let n = lists::list_used(list, planes, nodes, m)?;
     Ok(Solid {
         planes: n,

@@ -17,16 +17,14 @@ use Rattle.scope.specs.Answers.{given, refused, no_fault, no_faults, quads, sect
 use Rattle.theory.specs.Section.{section_nothing}
 use Rattle.planes.specs.Values.{plane}
 use Rattle.planes.specs.declared.Plane as struct
-use Rattle.refusals.specs.declared.Refusal.{Refusal}
-use Rattle.refusals.specs.Numbers.{numbered, numbered_unique}
 use Rattle.sections.specs.Values.{section_of}
 use Rattle.sections.specs.Promises.{SectionTold}
 
 -- ---- no second answer
 
-module _ {s : struct.Plane} {halves bounds work b₁ b₂ w₁ w₂ : List ℤ} {r₁ r₂ : Result (Option ℕ) Refusal} where
-  pub section_unique : SectionTold s halves bounds b₁ work w₁ (numbered r₁) → SectionTold s halves bounds b₂ work w₂ (numbered r₂) → (r₁ ≡ r₂) × (b₁ ≡ b₂) × (w₁ ≡ w₂)
-  section_unique h k = (numbered_unique (h.answer ∙ sym k.answer), h.bounds_left ∙ sym k.bounds_left, h.work_left ∙ sym k.work_left)
+module _ {s : struct.Plane} {halves bounds work b₁ b₂ w₁ w₂ : List ℤ} {r₁ r₂ : Result (Option ℕ) ℕ} where
+  pub section_unique : SectionTold s halves bounds b₁ work w₁ r₁ → SectionTold s halves bounds b₂ work w₂ r₂ → (r₁ ≡ r₂) × (b₁ ≡ b₂) × (w₁ ≡ w₂)
+  section_unique h k = (h.answer ∙ sym k.answer, h.bounds_left ∙ sym k.bounds_left, h.work_left ∙ sym k.work_left)
 
 -- ---- lawful calls
 
@@ -57,9 +55,9 @@ module _ (s : struct.Plane) (halves bounds work : List ℤ) (hs : List Plane) (w
       by true f = let g : section_of (given (b ∷ bs)) ≡ Ok None = rw f at e in differ (cc)
       by false f = let g : section_of (refused 8) ≡ Ok None = rw f at e in differ (cc)
 
-  module _ {b₁ w₁ : List ℤ} {r : Result (Option ℕ) Refusal} (h : SectionTold s halves bounds b₁ work w₁ (numbered r)) where
+  module _ {b₁ w₁ : List ℤ} {r : Result (Option ℕ) ℕ} (h : SectionTold s halves bounds b₁ work w₁ r) where
     pub nothing_told : (r ≡ Ok None) ↔ ¬ Cuts (plane s) (hs ++ box)
     nothing_told = (
-      (λ e. (section_nothing (plane s) hs normal).0 (nothing_of (length bounds / 4) (section (plane s) hs) (ap section_of (sym section_answered) ∙ sym h.answer ∙ ap numbered e))),
-      (λ c. numbered_unique (h.answer ∙ ap section_of section_answered ∙ ap (λ bs. section_of (bounds_by (length bounds / 4) bs)) ((section_nothing (plane s) hs normal).1 c))),
+      (λ e. (section_nothing (plane s) hs normal).0 (nothing_of (length bounds / 4) (section (plane s) hs) (ap section_of (sym section_answered) ∙ sym h.answer ∙ e))),
+      (λ c. h.answer ∙ ap section_of section_answered ∙ ap (λ bs. section_of (bounds_by (length bounds / 4) bs)) ((section_nothing (plane s) hs normal).1 c)),
     )

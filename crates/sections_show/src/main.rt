@@ -123,7 +123,7 @@ fn show(out: &mut Out) -> fmt::Result {
     rooms(out, &mut tables.work)
 }
 
-// A line that is not taken ends the rest.
+// A line that is not taken is left out, and the rest is printed.
 fn main() {
     let _ = show(&mut Out);
 }

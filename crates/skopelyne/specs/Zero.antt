@@ -8,9 +8,6 @@ use Rattle.std.specs.Prelude.{◌≡◌, refl, Bool, true, false, cond, List, []
 use Rattle.std.proofs.Common.{sym, ap, subst, ◌∙◌, arith}
 use Rattle.std.proofs.Math.Option.{Option, none, some}
 use Rattle.whole.specs.Tests.{differ}
-use Rattle.refusals.specs.declared.Refusal.{Refusal}
-use Rattle.refusals.specs.declared.LineRefusal.{LineRefusal}
-use Rattle.refusals.specs.Numbers.{number, numbered, lined}
 use Rattle.scope.specs.Limits.{stated, most_halves}
 use Rattle.scope.specs.Planes as scope-planes
 use Rattle.scope.specs.Planes.{Point}
@@ -55,18 +52,18 @@ module _ {q : Asked} {xs xs' : List ℤ} {ns ns' : List ℕ} {w w' : List ℤ} {
   pub given_zero : k ≡ 0 → (s : Solid) × (h.answer ≡ Ok s)
   given_zero e = by h.answer refl
     where
-      by : (g : Result Solid Refusal) → h.answer ≡ g → (s : Solid) × (h.answer ≡ Ok s)
+      by : (g : Result Solid ℕ) → h.answer ≡ g → (s : Solid) × (h.answer ≡ Ok s)
       by (Ok s) f = (s, f)
-      by (Err j) f = absurd (none_below (right_number q (length w) (results-rooms xs ns) (number j) (told_refusal (subst (λ g. Told q xs xs' ns ns' w w' (numbered g)) f h.promise)).when) (sym (ap (λ g. (given_as (numbered g)).number) f) ∙ sym h.counted.number ∙ e))
+      by (Err j) f = absurd (none_below (right_number q (length w) (results-rooms xs ns) j (told_refusal (subst (Told q xs xs' ns ns' w w') f h.promise)).when) (sym (ap (λ g. (given_as g).number) f) ∙ sym h.counted.number ∙ e))
 
   pub given_refused : k ≢ 0 → (p ≡ 0) × (n ≡ 0) × (r ≡ 0) × (xs' ≡ replicate (length xs) (pos 0)) × (ns' ≡ replicate (length ns) 0) × (w' ≡ replicate (length w) (pos 0))
   given_refused d = by h.answer refl
     where
-      by : (g : Result Solid Refusal) → h.answer ≡ g → (p ≡ 0) × (n ≡ 0) × (r ≡ 0) × (xs' ≡ replicate (length xs) (pos 0)) × (ns' ≡ replicate (length ns) 0) × (w' ≡ replicate (length w) (pos 0))
-      by (Ok s) f = absurd (d (h.counted.number ∙ ap (λ g. (given_as (numbered g)).number) f))
+      by : (g : Result Solid ℕ) → h.answer ≡ g → (p ≡ 0) × (n ≡ 0) × (r ≡ 0) × (xs' ≡ replicate (length xs) (pos 0)) × (ns' ≡ replicate (length ns) 0) × (w' ≡ replicate (length w) (pos 0))
+      by (Ok s) f = absurd (d (h.counted.number ∙ ap (λ g. (given_as g).number) f))
       by (Err j) f =
-          let z = told_refusal (subst (λ g. Told q xs xs' ns ns' w w' (numbered g)) f h.promise) in
-          (h.counted.planes ∙ ap (λ g. (given_as (numbered g)).planes) f, h.counted.nodes ∙ ap (λ g. (given_as (numbered g)).nodes) f, h.counted.root ∙ ap (λ g. (given_as (numbered g)).root) f, z.planes, z.nodes, z.work)
+          let z = told_refusal (subst (Told q xs xs' ns ns' w w') f h.promise) in
+          (h.counted.planes ∙ ap (λ g. (given_as g).planes) f, h.counted.nodes ∙ ap (λ g. (given_as g).nodes) f, h.counted.root ∙ ap (λ g. (given_as g).root) f, z.planes, z.nodes, z.work)
 
 -- ---- reading
 
@@ -82,18 +79,18 @@ module _ {t : List ℕ} {xs xs' : List ℤ} {ns ns' : List ℕ} {w w' : List ℤ
   pub read_zero : k ≡ 0 → (s : Solid) × (h.answer ≡ Ok s)
   read_zero e = by h.answer refl
     where
-      by : (j : Result Solid LineRefusal) → h.answer ≡ j → (s : Solid) × (h.answer ≡ Ok s)
+      by : (j : Result Solid (ℕ × ℕ)) → h.answer ≡ j → (s : Solid) × (h.answer ≡ Ok s)
       by (Ok s) f = (s, f)
-      by (Err m) f = absurd (none_below (read_number (subst (λ j. ReadTold t xs xs' ns ns' w w' (lined j)) f h.promise)) (sym (ap (λ j. (read_as (lined j)).number) f) ∙ sym h.counted.number ∙ e))
+      by (Err (m, l)) f = absurd (none_below (read_number (subst (ReadTold t xs xs' ns ns' w w') f h.promise)) (sym (ap (λ j. (read_as j).number) f) ∙ sym h.counted.number ∙ e))
 
   pub read_refused : k ≢ 0 → (p ≡ 0) × (n ≡ 0) × (r ≡ 0) × (xs' ≡ replicate (length xs) (pos 0)) × (ns' ≡ replicate (length ns) 0) × (w' ≡ replicate (length w) (pos 0))
   read_refused d = by h.answer refl
     where
-      by : (j : Result Solid LineRefusal) → h.answer ≡ j → (p ≡ 0) × (n ≡ 0) × (r ≡ 0) × (xs' ≡ replicate (length xs) (pos 0)) × (ns' ≡ replicate (length ns) 0) × (w' ≡ replicate (length w) (pos 0))
-      by (Ok s) f = absurd (d (h.counted.number ∙ ap (λ j. (read_as (lined j)).number) f))
-      by (Err m) f =
-          let z = read_refusal (subst (λ j. ReadTold t xs xs' ns ns' w w' (lined j)) f h.promise) in
-          (h.counted.planes ∙ ap (λ j. (read_as (lined j)).planes) f, h.counted.nodes ∙ ap (λ j. (read_as (lined j)).nodes) f, h.counted.root ∙ ap (λ j. (read_as (lined j)).root) f, z.0, z.1, z.2)
+      by : (j : Result Solid (ℕ × ℕ)) → h.answer ≡ j → (p ≡ 0) × (n ≡ 0) × (r ≡ 0) × (xs' ≡ replicate (length xs) (pos 0)) × (ns' ≡ replicate (length ns) 0) × (w' ≡ replicate (length w) (pos 0))
+      by (Ok s) f = absurd (d (h.counted.number ∙ ap (λ j. (read_as j).number) f))
+      by (Err (m, l)) f =
+          let z = read_refusal (subst (ReadTold t xs xs' ns ns' w w') f h.promise) in
+          (h.counted.planes ∙ ap (λ j. (read_as j).planes) f, h.counted.nodes ∙ ap (λ j. (read_as j).nodes) f, h.counted.root ∙ ap (λ j. (read_as j).root) f, z.0, z.1, z.2)
 
 -- ---- writing, and the calls on texts
 
@@ -142,13 +139,13 @@ text_zeros : {job : Job} {t out out' : List ℕ} {w w' : List ℤ} {k : ℕ} →
 text_zeros {out = out} h = (h.text ∙ ap (left 0 (length out) itself) (refused_of h.answer h.told) ∙ no_entries 0 (length out), h.work)
 
 -- an answer that has a number is refused; 0 is no such number
-wrote_zero : (P : Result ℕ ℕ → Type 0) (k : ℕ) → ((j : ℕ) → P (Err j) → 1 ≤ j) → (a : Result ℕ Refusal) → P (numbered a) → k ≡ (written_as (numbered a)).0 → k ≡ 0 → (m : ℕ) × (a ≡ Ok m)
+wrote_zero : (P : Result ℕ ℕ → Type 0) (k : ℕ) → ((j : ℕ) → P (Err j) → 1 ≤ j) → (a : Result ℕ ℕ) → P a → k ≡ (written_as a).0 → k ≡ 0 → (m : ℕ) × (a ≡ Ok m)
 wrote_zero P k above (Ok m) p f e = (m, refl)
-wrote_zero P k above (Err j) p f e = absurd (none_below (above (number j) p) (sym f ∙ e))
+wrote_zero P k above (Err j) p f e = absurd (none_below (above j p) (sym f ∙ e))
 
-wrote_refused : (P : Result ℕ ℕ → Type 0) (Z : Type 0) (k n : ℕ) → ((j : ℕ) → P (Err j) → Z) → (a : Result ℕ Refusal) → P (numbered a) → k ≡ (written_as (numbered a)).0 → n ≡ (written_as (numbered a)).1 → k ≢ 0 → (n ≡ 0) × Z
+wrote_refused : (P : Result ℕ ℕ → Type 0) (Z : Type 0) (k n : ℕ) → ((j : ℕ) → P (Err j) → Z) → (a : Result ℕ ℕ) → P a → k ≡ (written_as a).0 → n ≡ (written_as a).1 → k ≢ 0 → (n ≡ 0) × Z
 wrote_refused P Z k n zeros (Ok m) p f g d = absurd (d f)
-wrote_refused P Z k n zeros (Err j) p f g d = (g, zeros (number j) p)
+wrote_refused P Z k n zeros (Err j) p f g d = (g, zeros j p)
 
 module _ {xs : List ℤ} {ns : List ℕ} {r : ℕ} {u u' : List ℕ} {w w' : List ℤ} {k n : ℕ} (h : WriteOut xs ns r u u' w w' k n) where
   pub write_zero : k ≡ 0 → (m : ℕ) × (h.answer ≡ Ok m)
@@ -178,7 +175,7 @@ module _ {xs : List ℤ} {ns : List ℕ} {r : ℕ} {X : Point} {w w' : List ℤ}
   pub point_zero : k ≡ 0 → n ≢ 0
   point_zero e d = by h.answer h.promise h.number h.place
     where
-      by : (a : Result Place Refusal) → Tells xs ns r X w w' (numbered a) → k ≡ (point_as (numbered a)).0 → n ≡ (point_as (numbered a)).1 → ⊥
+      by : (a : Result Place ℕ) → Tells xs ns r X w w' a → k ≡ (point_as a).0 → n ≡ (point_as a).1 → ⊥
       by (Ok In) p f g = absurd (omega (arith, g, d))
       by (Ok Out) p f g = absurd (omega (arith, g, d))
       by (Ok On) p f g = absurd (omega (arith, g, d))
@@ -187,7 +184,7 @@ module _ {xs : List ℤ} {ns : List ℕ} {r : ℕ} {X : Point} {w w' : List ℤ}
   pub point_refused : k ≢ 0 → (n ≡ 0) × (w' ≡ replicate (length w) (pos 0))
   point_refused d = by h.answer h.number h.place
     where
-      by : (a : Result Place Refusal) → k ≡ (point_as (numbered a)).0 → n ≡ (point_as (numbered a)).1 → (n ≡ 0) × (w' ≡ replicate (length w) (pos 0))
+      by : (a : Result Place ℕ) → k ≡ (point_as a).0 → n ≡ (point_as a).1 → (n ≡ 0) × (w' ≡ replicate (length w) (pos 0))
       by (Ok In) f g = absurd (d f)
       by (Ok Out) f g = absurd (d f)
       by (Ok On) f g = absurd (d f)
@@ -244,7 +241,7 @@ module _ {s : Plane} {hs bs bs' w w' : List ℤ} {k n : ℕ} (h : SectionOut s h
   pub section_refused : k ≢ 0 → (n ≡ 0) × (bs' ≡ replicate (length bs) (pos 0)) × (w' ≡ replicate (length w) (pos 0))
   section_refused d = by h.answer h.promise h.number h.count
     where
-      by : (a : Result (Maybe ℕ) Refusal) → SectionTold s hs bs bs' w w' (numbered a) → k ≡ (section_as (numbered a)).0 → n ≡ (section_as (numbered a)).1 → (n ≡ 0) × (bs' ≡ replicate (length bs) (pos 0)) × (w' ≡ replicate (length w) (pos 0))
+      by : (a : Result (Maybe ℕ) ℕ) → SectionTold s hs bs bs' w w' a → k ≡ (section_as a).0 → n ≡ (section_as a).1 → (n ≡ 0) × (bs' ≡ replicate (length bs) (pos 0)) × (w' ≡ replicate (length w) (pos 0))
       by (Ok (Some m)) p f g = absurd (d f)
       by (Ok None) p f g = absurd (d f)
       by (Err j) p f g = let z = section_zeros p in (g, z.0, z.1)

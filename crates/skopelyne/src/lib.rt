@@ -3,7 +3,7 @@
 // a length; that the two are true, and that nothing lent to be written overlaps anything else, is all that is asked of a caller.
 #![tactic(auto)]
 
-ghost use Rattle.std.specs.Prelude.{◌≡◌};
+ghost use Rattle.std.specs.Prelude.{◌≡◌, ◌≤◌};
 ghost use Rattle.planes.specs.Values.{quad};
 ghost use Rattle.refusals.specs.Numbers.{numbered, lined};
 ghost use Rattle.theory.specs.Text.Lent.{lent};
@@ -109,7 +109,8 @@ pub extern "C" fn skopelyne_read(
     node_count: &mut usize,
     root: &mut u16,
 ) -> u8
-    ensures { ReadOut text.now planes.old planes.new nodes.old nodes.new work.old work.new result plane_count.new node_count.new root.new }
+    ensures answer { ReadOut text.now planes.old planes.new nodes.old nodes.new work.old work.new result plane_count.new node_count.new root.new }
+    ensures number { result ≤ 10 }
 {
     let r = zones::read(text, planes, nodes, work);
     judged(r, plane_count, node_count, root)
@@ -125,7 +126,8 @@ pub extern "C" fn skopelyne_write(
     work: &mut [i64],
     length: &mut usize,
 ) -> u8
-    ensures { WriteOut planes.now nodes.now root text.old text.new work.old work.new result length.new }
+    ensures answer { WriteOut planes.now nodes.now root text.old text.new work.old work.new result length.new }
+    ensures number { result ≤ 10 }
 {
     let s = LentSolid {
         planes,
@@ -148,7 +150,8 @@ pub extern "C" fn skopelyne_point(
     work: &mut [i64],
     place: &mut u8,
 ) -> u8
-    ensures { PointOut planes.now nodes.now root (quad x y z w) work.old work.new result place.new }
+    ensures answer { PointOut planes.now nodes.now root (quad x y z w) work.old work.new result place.new }
+    ensures number { result ≤ 10 }
 {
     let s = LentSolid {
         planes,
@@ -176,7 +179,8 @@ pub extern "C" fn skopelyne_merge(
     node_count: &mut usize,
     root: &mut u16,
 ) -> u8
-    ensures { GivenOut (merge_of op (lent ap.now an.now ar) (lent bp.now bn.now br)) planes.old planes.new nodes.old nodes.new work.old work.new result plane_count.new node_count.new root.new }
+    ensures answer { GivenOut (merge_of op (lent ap.now an.now ar) (lent bp.now bn.now br)) planes.old planes.new nodes.old nodes.new work.old work.new result plane_count.new node_count.new root.new }
+    ensures number { result ≤ 10 }
 {
     let a = LentSolid {
         planes: ap,
@@ -205,7 +209,8 @@ pub extern "C" fn skopelyne_normal(
     node_count: &mut usize,
     root: &mut u16,
 ) -> u8
-    ensures { GivenOut (form_of (lent ap.now an.now ar)) planes.old planes.new nodes.old nodes.new work.old work.new result plane_count.new node_count.new root.new }
+    ensures answer { GivenOut (form_of (lent ap.now an.now ar)) planes.old planes.new nodes.old nodes.new work.old work.new result plane_count.new node_count.new root.new }
+    ensures number { result ≤ 10 }
 {
     let a = LentSolid {
         planes: ap,
@@ -226,7 +231,8 @@ pub extern "C" fn skopelyne_merge_text(
     work: &mut [i64],
     length: &mut usize,
 ) -> u8
-    ensures { TextOut merging text.now out.old out.new work.old work.new result length.new }
+    ensures answer { TextOut merging text.now out.old out.new work.old work.new result length.new }
+    ensures number { result ≤ 10 }
 {
     tell(zones::merge_text(text, out, work), 0, length)
 }
@@ -239,7 +245,8 @@ pub extern "C" fn skopelyne_normal_text(
     work: &mut [i64],
     length: &mut usize,
 ) -> u8
-    ensures { TextOut forming text.now out.old out.new work.old work.new result length.new }
+    ensures answer { TextOut forming text.now out.old out.new work.old work.new result length.new }
+    ensures number { result ≤ 10 }
 {
     tell(zones::normal_text(text, out, work), 0, length)
 }
@@ -258,7 +265,8 @@ pub extern "C" fn skopelyne_section(
     work: &mut [i64],
     count: &mut usize,
 ) -> u8
-    ensures { SectionOut (record { a = a; b = b; c = c; d = d }) halves.now bounds.old bounds.new work.old work.new result count.new }
+    ensures answer { SectionOut (record { a = a; b = b; c = c; d = d }) halves.now bounds.old bounds.new work.old work.new result count.new }
+    ensures number { result ≤ 10 }
 {
     let r = zones::section(Plane { a, b, c, d }, halves, bounds, work);
     bounded(r, count)

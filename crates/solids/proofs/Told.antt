@@ -1,5 +1,6 @@
 -- From a solid that was read to the promise of the public call.
 --     into_long, into_refused, into_sound, into_more, into_told   a text
+--     solid_inside   where the text goes on after a solid
 --     read_sound, read_refused, told_sound, told_refused   the answer, and what is left in the tables
 use mathlib.Core.Path.{◌≡◌, refl, sym, ap, subst, ◌∙◌}
 use mathlib.Core.Bool.{Bool, true, false, cond}
@@ -11,8 +12,6 @@ use lib.Dec.{leb}
 use lib.IntN.{ℤ, pos}
 use lib.ListN.{length, drop, replicate}
 use borrow.Author.Tests.{le-leb, lt-leb}
-use Rattle.std.specs.Result.{is_err}
-use Rattle.whole.specs.Tests.{differ}
 use Rattle.refusals.specs.declared.LineRefusal.{LineRefusal}
 use Rattle.refusals.specs.Numbers.{lined}
 use Rattle.scope.specs.Limits.{stated, most_text}
@@ -23,7 +22,7 @@ use Rattle.scope.specs.Answers as answers
 use Rattle.frames.specs.Promises.{Follows}
 use Rattle.tables.specs.declared.Solid.{Solid}
 use Rattle.lines.specs.declared.SolidRead.{SolidRead}
-use Rattle.solids.specs.Finish.{Finished, at_end, more}
+use Rattle.solids.specs.Finish.{FinishIn, Finished, not_read, at_end, more}
 use Rattle.lines.specs.Reading.{rooms, WholeSolid, SolidTold}
 use Rattle.solids.specs.Reading.{verdict, judgement, Into, IntoTold, ReadTold}
 use Rattle.lines.proofs.Whole.{finish_read, finish_more, finish_refused}
@@ -54,9 +53,15 @@ module _ (t : List ℕ) (a : Rooms) (work : ℕ) where
       into_sound q h = record { is = q.is; counts = q.counts; plane_table = q.plane_table; node_table = q.node_table; sound = by_lines ∙ finish_read q.reading h }
 
       -- from what was read to what is told
-      pub into_told : (xs : List ℤ) (ns : List ℕ) {r : SolidRead} {j : Result Solid (ℕ × ℕ)} → Finished t r j → SolidTold t 0 1 a xs ns (Ok r) → IntoTold t a work xs ns j
+      pub into_told : (xs : List ℤ) (ns : List ℕ) {r : Result SolidRead (ℕ × ℕ)} {j : Result Solid (ℕ × ℕ)} → Finished t r j → SolidTold t 0 1 a xs ns r → IntoTold t a work xs ns j
+      into_told xs ns not_read h = into_refused h
       into_told xs ns (at_end e) h = into_sound h e
       into_told xs ns (more e) h = into_more h e
+
+-- where the text goes on after a solid
+pub solid_inside : (t : List ℕ) (from l : ℕ) (a : Rooms) (xs : List ℤ) (ns : List ℕ) (r : Result SolidRead (ℕ × ℕ)) → SolidTold t from l a xs ns r → FinishIn t r
+solid_inside t from l a xs ns (Ok r) h = h.inside
+solid_inside t from l a xs ns (Err e) h = tt
 
 -- ---- the public call
 
@@ -96,10 +101,8 @@ module _ (t : List ℕ) (xs : List ℤ) (ns : List ℕ) (w : List ℤ) where
     lent : (r : Result Solid (ℕ × ℕ)) → IntoTold t (rooms xs₁ ns₁) (length w₁) xs₂ ns₂ r → IntoTold t (rooms xs ns) (length w) xs₂ ns₂ r
     lent r = subst (λ a. a) (λ i. IntoTold t (record { plane_rows = ex i / 4; node_rows = en i / 3 }) (ew i) xs₂ ns₂ r)
 
-    pub told_refused : (r : Result Solid LineRefusal) {xs' : List ℤ} {ns' : List ℕ} {w' : List ℤ} → is_err r ≡ true → IntoTold t (rooms xs₁ ns₁) (length w₁) xs₂ ns₂ (lined r) → xs' ≡ replicate (length xs) (pos 0) → ns' ≡ replicate (length ns) 0 → w' ≡ replicate (length w) (pos 0) → ReadTold t xs xs' ns ns' w w' (lined r)
-    told_refused (Ok s) e h zx zn zw = differ (cc e)
-    told_refused (Err r) e h zx zn zw = read_refused zx zn zw (lent (lined (Err r)) h)
+    pub told_refused : {r : Result Solid LineRefusal} {e : LineRefusal} {xs' : List ℤ} {ns' : List ℕ} {w' : List ℤ} → r ≡ Err e → IntoTold t (rooms xs₁ ns₁) (length w₁) xs₂ ns₂ (lined r) → xs' ≡ replicate (length xs) (pos 0) → ns' ≡ replicate (length ns) 0 → w' ≡ replicate (length w) (pos 0) → ReadTold t xs xs' ns ns' w w' (lined r)
+    told_refused {e = e} {xs' = xs'} {ns' = ns'} {w' = w'} q h zx zn zw = subst (λ r. ReadTold t xs xs' ns ns' w w' (lined r)) (sym q) (read_refused zx zn zw (lent (lined (Err e)) (subst (λ r. IntoTold t (rooms xs₁ ns₁) (length w₁) xs₂ ns₂ (lined r)) q h)))
 
-    pub told_sound : (r : Result Solid LineRefusal) {w' : List ℤ} → is_err r ≡ false → IntoTold t (rooms xs₁ ns₁) (length w₁) xs₂ ns₂ (lined r) → length xs₂ ≡ length xs → length ns₂ ≡ length ns → w' ≡ replicate (length w) (pos 0) → ReadTold t xs xs₂ ns ns₂ w w' (lined r)
-    told_sound (Ok s) e h lx ln zw = read_sound lx ln zw (lent (Ok s) h)
-    told_sound (Err r) e h lx ln zw = differ (cc e)
+    pub told_sound : {r : Result Solid LineRefusal} {s : Solid} {w' : List ℤ} → r ≡ Ok s → IntoTold t (rooms xs₁ ns₁) (length w₁) xs₂ ns₂ (lined r) → length xs₂ ≡ length xs → length ns₂ ≡ length ns → w' ≡ replicate (length w) (pos 0) → ReadTold t xs xs₂ ns ns₂ w w' (Ok s)
+    told_sound {s = s} q h lx ln zw = read_sound lx ln zw (lent (Ok s) (subst (λ r. IntoTold t (rooms xs₁ ns₁) (length w₁) xs₂ ns₂ (lined r)) q h))

@@ -18,9 +18,6 @@ use Rattle.theory.specs.Text.Filled.{planes_count, nodes_count}
 use Rattle.theory.specs.Text.Judge.{Roomy, judge_text, judge_read}
 use Rattle.theory.specs.Text.Lent.{lent, Flat, lent_accepted, lent_taken}
 use Rattle.theory.specs.Text.Trees.{LawfulTables}
-use Rattle.refusals.specs.declared.Refusal.{Refusal}
-use Rattle.refusals.specs.declared.LineRefusal.{LineRefusal}
-use Rattle.refusals.specs.Numbers.{numbered, lined, numbered_unique, lined_unique}
 use Rattle.tables.specs.declared.Solid.{Solid}
 use Rattle.lines.specs.Reading.{rooms, solid_of}
 use Rattle.solids.specs.Reading.{same_number, verdict, judgement, ReadTold}
@@ -28,11 +25,11 @@ use Rattle.solids.specs.Writing.{wrote, itself, WriteTold}
 
 -- ---- no second answer
 
-pub read_unique : {t : List ℕ} {xs xs' xs'' : List ℤ} {ns ns' ns'' : List ℕ} {w w' w'' : List ℤ} {i j : Result Solid LineRefusal} → ReadTold t xs xs' ns ns' w w' (lined i) → ReadTold t xs xs'' ns ns'' w w'' (lined j) → (i ≡ j) × (xs' ≡ xs'') × (ns' ≡ ns'') × (w' ≡ w'')
-read_unique h k = (lined_unique (h.answer ∙ sym k.answer), h.planes ∙ sym k.planes, h.nodes ∙ sym k.nodes, h.work ∙ sym k.work)
+pub read_unique : {t : List ℕ} {xs xs' xs'' : List ℤ} {ns ns' ns'' : List ℕ} {w w' w'' : List ℤ} {i j : Result Solid (ℕ × ℕ)} → ReadTold t xs xs' ns ns' w w' i → ReadTold t xs xs'' ns ns'' w w'' j → (i ≡ j) × (xs' ≡ xs'') × (ns' ≡ ns'') × (w' ≡ w'')
+read_unique h k = (h.answer ∙ sym k.answer, h.planes ∙ sym k.planes, h.nodes ∙ sym k.nodes, h.work ∙ sym k.work)
 
-pub write_unique : {xs : List ℤ} {ns : List ℕ} {r : ℕ} {t t' t'' : List ℕ} {w w' w'' : List ℤ} {a b : Result ℕ Refusal} → WriteTold xs ns r t t' w w' (numbered a) → WriteTold xs ns r t t'' w w'' (numbered b) → (a ≡ b) × (t' ≡ t'') × (w' ≡ w'')
-write_unique h k = (numbered_unique (h.answer ∙ sym k.answer), h.text ∙ sym k.text, h.work ∙ sym k.work)
+pub write_unique : {xs : List ℤ} {ns : List ℕ} {r : ℕ} {t t' t'' : List ℕ} {w w' w'' : List ℤ} {a b : Result ℕ ℕ} → WriteTold xs ns r t t' w w' a → WriteTold xs ns r t t'' w w'' b → (a ≡ b) × (t' ≡ t'') × (w' ≡ w'')
+write_unique h k = (h.answer ∙ sym k.answer, h.text ∙ sym k.text, h.work ∙ sym k.work)
 
 -- ---- the answers, taken apart
 
@@ -90,9 +87,9 @@ module _ {t : List ℕ} {xs xs' : List ℤ} {ns ns' : List ℕ} {w w' : List ℤ
   abbrev node_rows : List ℕ
   node_rows = take (3 * s.nodes) ns'
 
-  pub read_written : {u u' : List ℕ} {v v' : List ℤ} {a : Result ℕ Refusal} → WriteTold plane_rows node_rows s.root u u' v v' (numbered a) → stated ≤ length v → length t ≤ length u → (a ≡ Ok (length t)) × (u' ≡ filled 0 (length u) t)
+  pub read_written : {u u' : List ℕ} {v v' : List ℤ} {a : Result ℕ ℕ} → WriteTold plane_rows node_rows s.root u u' v v' a → stated ≤ length v → length t ≤ length u → (a ≡ Ok (length t)) × (u' ≡ filled 0 (length u) t)
   unfolding write_answer
-  read_written {u} {u'} {v} k work room = (numbered_unique (k.answer ∙ ap wrote same), k.text ∙ ap (left 0 (length u) itself) same)
+  read_written {u} {u'} {v} k work room = (k.answer ∙ ap wrote same, k.text ∙ ap (left 0 (length u) itself) same)
     where
       g : Given t (rooms xs ns) (length w) s
       g = read_given h.answer
@@ -120,7 +117,7 @@ module _ {t : List ℕ} {xs xs' : List ℤ} {ns ns' : List ℕ} {w w' : List ℤ
 -- ---- written and read again
 
 module _ {xs : List ℤ} {ns : List ℕ} {r n : ℕ} {u u' : List ℕ} {v v' : List ℤ} (h : WriteTold xs ns r u u' v v' (Ok n)) where
-  pub written_read : {ys ys' : List ℤ} {ms ms' : List ℕ} {w w' : List ℤ} {j : Result Solid LineRefusal} → ReadTold (take n u') ys ys' ms ms' w w' (lined j) → stated ≤ length w → length xs ≤ length ys → length ns ≤ length ms → (j ≡ Ok (record { planes = length xs / 4; nodes = length ns / 3; root = r })) × (ys' ≡ filled (pos 0) (length ys) xs) × (ms' ≡ filled 0 (length ms) ns)
+  pub written_read : {ys ys' : List ℤ} {ms ms' : List ℕ} {w w' : List ℤ} {j : Result Solid (ℕ × ℕ)} → ReadTold (take n u') ys ys' ms ms' w w' j → stated ≤ length w → length xs ≤ length ys → length ns ≤ length ms → (j ≡ Ok (record { planes = length xs / 4; nodes = length ns / 3; root = r })) × (ys' ≡ filled (pos 0) (length ys) xs) × (ms' ≡ filled 0 (length ms) ns)
   unfolding read_answer
   written_read {ys} {ys'} {ms} {ms'} {w} {w'} {j} k work px pn = by p.is (lent_taken xs ns r p.is p.judged) whole_text
     where
@@ -132,7 +129,7 @@ module _ {xs : List ℤ} {ns : List ℕ} {r n : ℕ} {u u' : List ℕ} {v v' : L
 
       by : (a : Tables) → Flat a xs ns r × LawfulTables a → take n u' ≡ text a → (j ≡ Ok (record { planes = length xs / 4; nodes = length ns / 3; root = r })) × (ys' ≡ filled (pos 0) (length ys) xs) × (ms' ≡ filled 0 (length ms) ns)
       by (tables ps es q) (f, l) e = (
-        lined_unique (k.answer ∙ ap judgement (worked _ (refusal 8 0) work ∙ taken) ∙ ap Ok (λ i. record { planes = sym rows i; nodes = sym lines i; root = sym f.root i })),
+        k.answer ∙ ap judgement (worked _ (refusal 8 0) work ∙ taken) ∙ ap Ok (λ i. record { planes = sym rows i; nodes = sym lines i; root = sym f.root i }),
         k.planes ∙ ap (left (pos 0) (length ys) plane_numbers) same ∙ ap (filled (pos 0) (length ys)) (sym f.planes),
         k.nodes ∙ ap (left 0 (length ms) node_numbers) same ∙ ap (filled 0 (length ms)) (sym f.nodes),
       )

@@ -1,12 +1,12 @@
 // Solids as text, as document 01's "Solids as frames" has it: a text is read into lent tables, and lent tables are written as a text.
 #![tactic(auto)]
 
-ghost use Rattle.std.specs.Prelude.{◌≡◌, ◌≤◌, length, replicate};
+ghost use Rattle.std.specs.Prelude.{◌≡◌, length, replicate};
 ghost use Rattle.refusals.specs.Numbers.{numbered, lined};
 ghost use Rattle.lines.specs.Reading.{Blank, rooms};
 ghost use Rattle.tables.specs.Promises.{counts};
 ghost use Rattle.solids.specs.Reading.{IntoTold, ReadTold};
-ghost use Rattle.solids.specs.Finish.{Finished};
+ghost use Rattle.solids.specs.Finish.{FinishIn, Finished};
 ghost use Rattle.solids.specs.Writing.{Sound, FittedTold, WriteTold};
 
 use frames::Cursor;
@@ -16,12 +16,13 @@ use tables::{LentSolid, Solid};
 
 // ---- reading
 
-// A solid that was read, after which nothing may follow.
-#[tactic(auto, using(crate::specs::Finish::at_end, crate::specs::Finish::more))]
-pub fn finished(text: &[u8], r: SolidRead) -> Result<Solid, LineRefusal>
-    requires { r.next.cursor.at ≤ length text.now }
-    ensures { Finished text.now r (lined result) }
+// A solid that was read, after which nothing may follow; what was refused is handed on.
+#[tactic(auto, using(crate::specs::Finish::not_read, crate::specs::Finish::at_end, crate::specs::Finish::more))]
+pub fn finished(text: &[u8], r: Result<SolidRead, LineRefusal>) -> Result<Solid, LineRefusal>
+    requires { FinishIn text.now (lined r) }
+    ensures { Finished text.now (lined r) (lined result) }
 {
+    let r = r?;
     frames::after_end(text, r.next.cursor).map_err(|e| e.at(r.next.line))?;
     Ok(r.solid)
 }
@@ -43,7 +44,7 @@ fn read_into(
         return Err(Refusal::OverLimit.at(0));
     }
     let cursor = Cursor { at: 0 };
-    let r = read_solid(text, Place { cursor, line: 1 }, planes, nodes, work)?;
+    let r = read_solid(text, Place { cursor, line: 1 }, planes, nodes, work);
     finished(text, r)
 }
 
@@ -61,11 +62,12 @@ pub fn read(
     zeros::clear(work);
     let answer = read_into(text, planes, nodes, work);
     zeros::clear(work); // left as zeros
-    if answer.is_err() {
+    let Ok(s) = answer else {
         zeros::clear(planes);
         zeros::clear(nodes);
-    }
-    answer
+        return answer;
+    };
+    Ok(s)
 }
 
 // ---- writing
@@ -88,6 +90,8 @@ pub fn write(s: &LentSolid, text: &mut [u8], work: &mut [i64]) -> Result<usize, 
     ensures { WriteTold s.now.planes.now s.now.nodes.now s.now.root text.old text.new work.old work.new (numbered result) }
 {
     zeros::clear(text);
-    tables::judge(s, work)?;
-    put_text(s, text)
+    match tables::judge(s, work) {
+        Ok(_) => put_text(s, text),
+        Err(l) => Err(l.refusal),
+    }
 }

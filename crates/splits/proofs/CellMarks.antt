@@ -1,7 +1,7 @@
 -- The mark of a cell, told by the merge in it, which has no room for a row.
 --     on_within                 the cell of a path is within the box
---     mark_side                 what the merge is given
---     mark_done, mark_refused   a mark is that of a uniform cell, and a refusal means a mixed one
+--     kind_done, kind_refused   a mark is that of a uniform cell, and a refusal means a mixed one
+--     mark_done, mark_refused   so of what the code answers
 use mathlib.Core.Path.{◌≡◌, refl, sym, ap, subst}
 use mathlib.Core.Bool.{true, false}
 use mathlib.Core.List.{List}
@@ -89,13 +89,20 @@ module _ {o : Operands} {t : Pair} {path : List ℤ} {depth : ℕ} where
     put_out : {z : Answer} → Did o (turn_of t) path path' depth out out' 0 t.ar z → {A B : Tree} {c : List Plane} (s : Stood o t path depth A B c) → Emitted (list o.planes.now) out out' 0 (merged g s).0 z
     put_out d {A} {B} {c} s = d.emitted A B (merged g s).0 c s.pair.first_stands s.pair.second_stands s.on (merged g s).1
 
+    -- whatever the walk answers
+    pub kind_done : {z : Answer} → Did o (turn_of t) path path' depth out out' 0 t.ar z → {m n : ℕ} → z ≡ Ok (m, n) → MarkTold o t path path' depth (Some m)
+    kind_done d f = record { kept = record { rows = d.kept }; told = λ A B c s. by_done g s (merged g s).1 l (put_out d s) f (merged_kind (operate (operation_of t.op)) B (merged g s).1) }
+
+    pub kind_refused : {z : Answer} → Did o (turn_of t) path path' depth out out' 0 t.ar z → {n : ℕ} → z ≡ Err n → MarkTold o t path path' depth None
+    kind_refused d f = record { kept = record { rows = d.kept }; told = λ A B c s. by_refused g s (merged g s).1 (put_out d s) f (merged_kind (operate (operation_of t.op)) B (merged g s).1) }
+
+    -- as the code answers
     pub mark_done : (r : Result (ℕ × ℕ) Refusal) {m n : ℕ} → Did o (turn_of t) path path' depth out out' 0 t.ar (numbered r) → result_ok r ≡ Some (m, n) → MarkTold o t path path' depth (Some m)
     mark_done (Ok p) {m} {n} d e =
         let i : p ≡ (m, n) = cc in
-        record { kept = record { rows = d.kept }; told = λ A B c s. by_done g s (merged g s).1 l (put_out d s) (ap Ok i) (merged_kind (operate (operation_of t.op)) B (merged g s).1) }
+        kind_done d (ap Ok i)
     mark_done (Err k) d e = differ (cc)
 
     pub mark_refused : (r : Result (ℕ × ℕ) Refusal) {y : Option ℕ} → Did o (turn_of t) path path' depth out out' 0 t.ar (numbered r) → result_ok r ≡ None → y ≡ None → MarkTold o t path path' depth y
     mark_refused (Ok p) d e i = differ (cc)
-    mark_refused (Err k) d e i =
-        rw i (record { kept = record { rows = d.kept }; told = λ A B c s. by_refused g s (merged g s).1 (put_out d s) refl (merged_kind (operate (operation_of t.op)) B (merged g s).1) })
+    mark_refused (Err k) d e i = rw i (kind_refused d refl)

@@ -4,11 +4,11 @@
 use mathlib.Core.Path.{◌≡◌, refl, sym, ap, subst, ◌∙◌}
 use mathlib.Core.Bool.{cond}
 use mathlib.Core.List.{List}
-use Prim.Native.Nat.{ℕ, ◌-◌, ◌*◌, ◌/◌, ◌≤◌}
+use Prim.Native.Nat.{ℕ, ◌/◌, ◌≤◌}
 use native.Mathlib.Omega.{arith}
 use borrow.Author.Tests.{le-leb}
 use lib.IntN.{ℤ, pos}
-use lib.ListN.{length, take, replicate}
+use lib.ListN.{length}
 use Rattle.whole.specs.Tests.{differ}
 use Rattle.scope.specs.Limits.{stated}
 use Rattle.scope.specs.Judging.{Verdict, accepted, refusal, judge}
@@ -18,21 +18,23 @@ use Rattle.theory.specs.Answers.{sound_tables}
 use Rattle.theory.specs.Text.Judge.{judge_read}
 use Rattle.tables.specs.declared.Solid.{Solid}
 use Rattle.std.specs.Prelude.{Result, Ok, Err}
+use Rattle.refusals.specs.declared.Refusal.{Refusal}
+use Rattle.refusals.specs.Numbers.{number, numbered}
 use Rattle.lines.specs.Reading.{rooms}
 use Rattle.solids.specs.Reading.{judgement, ReadTold}
 use Rattle.solids.specs.Follows.{read_given}
 use Rattle.solids.specs.Follows as reading
 use Rattle.forms.specs.Promises.{NormalTold}
-use Rattle.outputs.specs.Outputs.{in_room, Outcome, Gave, RowsLent, WriteTold}
+use Rattle.outputs.specs.Outputs.{in_room, Refuses, Gave, RowsLent, WriteTold}
 use Rattle.outputs.proofs.Held.{rows_lent}
 use Rattle.texts.specs.Answers.{forming, formed_text}
 use Rattle.texts.specs.Steps.{WithTold, SolidIn, ResultIn, Holds, Forming, SolidFormed}
 use Rattle.texts.specs.Lawful.{form_given_lawful}
-use Rattle.texts.proofs.Calls.{from_work, result_gave, no_text, no_result}
+use Rattle.texts.proofs.Calls.{from_work, result_gave, refusal_told}
 
 -- ---- the form's answer
 
-module _ {s : Solid} {pa : List ℤ} {na : List ℕ} (a : Holds s pa na) {ya : List ℤ} {ma : List ℕ} {ra : ℕ} (la : RowsLent s pa na ya ma ra) {xs xs' : List ℤ} {ns ns' out : List ℕ} {w w' : List ℤ} {m : Result Solid ℕ} (i : ResultIn xs ns out w) (h : NormalTold ya ma ra xs xs' ns ns' w w' m) where
+module _ {s : Solid} {pa : List ℤ} {na : List ℕ} (a : Holds s pa na) {ya : List ℤ} {ma : List ℕ} {ra : ℕ} (la : RowsLent s pa na ya ma ra) {xs xs' : List ℤ} {ns ns' : List ℕ} {w w' : List ℤ} {m : Result Solid ℕ} (i : ResultIn xs ns w) (h : NormalTold ya ma ra xs xs' ns ns' w w' m) where
   formed_right : FormBy program_rooms (accepted a.is) h.answer
   formed_right = subst (λ x. x) (λ j. FormBy (record { plane_rows = plane_rows j; node_rows = node_rows j }) (rows_lent s pa na la a.is a.lawful a.held j) h.answer) (from_work i.enough h.exact)
     where
@@ -45,8 +47,8 @@ module _ {s : Solid} {pa : List ℤ} {na : List ℕ} (a : Holds s pa na) {ya : L
   pub form_gave : length xs' ≡ length xs → length ns' ≡ length ns → Gave h.answer xs' ns' m
   form_gave = result_gave h (λ c e. form_given_lawful (sound_tables a.lawful) formed_right e)
 
-  pub forming_told : {out₁ out' : List ℕ} {r : Result ℕ ℕ} → Outcome (in_room (length out₁) h.answer) out₁ out' r → Forming a.is out₁ out' r
-  forming_told f = record { answer = h.answer; exact = formed_right; outcome = f }
+  pub forming_told : length xs' ≡ length xs → length ns' ≡ length ns → {out out' : List ℕ} {r : Result ℕ ℕ} → WriteTold m xs' ns' out out' r → Forming a.is out out' r
+  forming_told lx ln f = record { answer = h.answer; exact = formed_right; outcome = f h.answer (form_gave lx ln) }
 
 -- ---- the text
 
@@ -63,8 +65,8 @@ module _ {t : List ℕ} {xs xs' : List ℤ} {ns ns' : List ℕ} {w w' : List ℤ
   judged : j ≡ judgement (judge operand_rooms t)
   judged = h.answer ∙ ap (λ b. judgement (cond b (judge (rooms xs ns) t) (refusal 8 0))) (le-leb stated (length w) enough) ∙ ap (λ r. judgement (judge r t)) rooms_are
 
-  pub solid_refused : {out : List ℕ} {k l : ℕ} → out ≡ replicate (length out) 0 → j ≡ Err (k, l) → WithTold forming t out out (Err k)
-  solid_refused {k = k} {l = l} z e = record { answer = refused k; exact = formed_text {r = refused k} (scope.solid_refused (by (judge operand_rooms t) (sym judged ∙ e))); outcome = no_text z }
+  refuses : {k l : ℕ} → j ≡ Err (k, l) → judge operand_rooms t ≡ refusal k l
+  refuses {k} {l} e = by (judge operand_rooms t) (sym judged ∙ e)
     where
       by : (v : Verdict) → judgement v ≡ Err (k, l) → v ≡ refusal k l
       by (accepted a) q = differ (cc)
@@ -86,3 +88,6 @@ module _ {t : List ℕ} {xs xs' : List ℤ} {ns ns' : List ℕ} {w w' : List ℤ
 
     pub solid_formed : (lx : length xs' ≡ length xs) (ln : length ns' ≡ length ns) → {out out' : List ℕ} {r : Result ℕ ℕ} → SolidFormed s xs' ns' out out' r → WithTold forming t out out' r
     solid_formed lx ln {out} f = let g = f (solid_held lx ln) in record { answer = in_room (length out) g.answer; exact = formed_text (subst (λ v. FormBy program_rooms v g.answer) (sym accepts) g.exact); outcome = g.outcome }
+
+pub solid_refused : {t : List ℕ} {xs xs' : List ℤ} {ns ns' : List ℕ} {w w' : List ℤ} {e : Refusal} {l : ℕ} {out out' : List ℕ} {r : Result ℕ Refusal} → ReadTold t xs xs' ns ns' w w' (Err (number e, l)) → Refuses e out out' r → SolidIn xs ns → stated ≤ length w → WithTold forming t out out' (numbered r)
+solid_refused {e = e} h f i enough = record { answer = refused (number e); exact = formed_text {r = refused (number e)} (scope.solid_refused (refuses i enough h refl)); outcome = refusal_told f }

@@ -23,11 +23,10 @@ pub record SolidIn (ap : List ℤ) (an : List ℕ) : Type 0 where
   pub planes : length ap ≡ 256
   pub nodes : length an ≡ 3000
 
--- 128 plane rows and 1,000 node rows for the result, a text of zeros, and enough work
-pub record ResultIn (xs : List ℤ) (ns : List ℕ) (out : List ℕ) (w : List ℤ) : Type 0 where
+-- 128 plane rows and 1,000 node rows for the result, and enough work
+pub record ResultIn (xs : List ℤ) (ns : List ℕ) (w : List ℤ) : Type 0 where
   pub planes : length xs ≡ 512
   pub nodes : length ns ≡ 3000
-  pub blank : out ≡ replicate (length out) 0
   pub enough : stated ≤ length w
 
 pub record WorkIn (w : List ℤ) : Type 0 where
@@ -35,10 +34,10 @@ pub record WorkIn (w : List ℤ) : Type 0 where
   pub zeros : w ≡ replicate (length w) (pos 0)
 
 -- tables for the operands and for the result, and a work table of zeros
-pub record TablesIn (ap : List ℤ) (an : List ℕ) (bp : List ℤ) (bn : List ℕ) (xs : List ℤ) (ns out : List ℕ) (w : List ℤ) : Type 0 where
+pub record TablesIn (ap : List ℤ) (an : List ℕ) (bp : List ℤ) (bn : List ℕ) (xs : List ℤ) (ns : List ℕ) (w : List ℤ) : Type 0 where
   pub first : SolidIn ap an
   pub second : SolidIn bp bn
-  pub result : ResultIn xs ns out w
+  pub result : ResultIn xs ns w
   pub zeros : w ≡ replicate (length w) (pos 0)
 
 -- a lawful solid in tables
@@ -49,10 +48,10 @@ pub record Holds (s : Solid) (ap : List ℤ) (an : List ℕ) : Type 0 where
 
 -- ---- a merge
 
-pub record OrderIn (o : Order) (ap : List ℤ) (an : List ℕ) (bp : List ℤ) (bn : List ℕ) (xs : List ℤ) (ns out : List ℕ) (w : List ℤ) : Type 0 where
+pub record OrderIn (o : Order) (ap : List ℤ) (an : List ℕ) (bp : List ℤ) (bn : List ℕ) (xs : List ℤ) (ns : List ℕ) (w : List ℤ) : Type 0 where
   pub first : Holds o.a ap an
   pub second : Holds o.b bp bn
-  pub result : ResultIn xs ns out w
+  pub result : ResultIn xs ns w
 
 pub record Merging (op : ℕ) (a b : Tables) (out out' : List ℕ) (r : Result ℕ ℕ) : Type 0 where
   pub answer : Answer Tables
@@ -64,9 +63,9 @@ OrderMerged o ap an bp bn out out' r = (a : Holds o.a ap an) (b : Holds o.b bp b
 
 -- ---- a normal form
 
-pub record FormIn (s : Solid) (ap : List ℤ) (an : List ℕ) (xs : List ℤ) (ns out : List ℕ) (w : List ℤ) : Type 0 where
+pub record FormIn (s : Solid) (ap : List ℤ) (an : List ℕ) (xs : List ℤ) (ns : List ℕ) (w : List ℤ) : Type 0 where
   pub solid : Holds s ap an
-  pub result : ResultIn xs ns out w
+  pub result : ResultIn xs ns w
 
 pub record Forming (a : Tables) (out out' : List ℕ) (r : Result ℕ ℕ) : Type 0 where
   pub answer : Answer Tables

@@ -1,11 +1,10 @@
-// The merge of a text, step by step: the order is read into tables, merged into tables, and written. A step that refuses leaves the text as it
-// was, zeros.
+// The merge of a text, step by step: the order is read into tables, merged into tables, and written.
 ghost use Rattle.refusals.specs.Numbers.{numbered};
 ghost use Rattle.texts.specs.Answers.{merging};
 ghost use Rattle.texts.specs.Steps.{TablesIn, WorkIn, OrderIn, OrderMerged, WithTold};
 
 use inputs::Order;
-use outputs::{rows_of, written};
+use outputs::{refuse, rows_of, written};
 use refusals::Refusal;
 use tables::Solid;
 
@@ -21,13 +20,13 @@ pub fn merge_read(
     out: &mut [u8],
     work: &mut [i64],
 ) -> Result<usize, Refusal>
-    requires { OrderIn o ap.now an.now bp.now bn.now planes.old nodes.old out.old work.old }
+    requires { OrderIn o ap.now an.now bp.now bn.now planes.old nodes.old work.old }
     ensures { OrderMerged o ap.now an.now bp.now bn.now out.old out.new (numbered result) }
 {
     let a = rows_of(o.a, ap, an);
     let b = rows_of(o.b, bp, bn);
-    let s = merging::merge(o.op, &a, &b, planes, nodes, work)?;
-    written(s, planes, nodes, out, work)
+    let m = merging::merge(o.op, &a, &b, planes, nodes, work);
+    written(m, planes, nodes, out, work)
 }
 
 // The merge of a text, with tables lent for the operands and for the result.
@@ -42,15 +41,17 @@ pub fn merge_with(
     out: &mut [u8],
     work: &mut [i64],
 ) -> Result<usize, Refusal>
-    requires { TablesIn ap.old an.old bp.old bn.old planes.old nodes.old out.old work.old }
+    requires { TablesIn ap.old an.old bp.old bn.old planes.old nodes.old work.old }
     ensures { WithTold merging text.now out.old out.new (numbered result) }
 {
     zeros::clear(ap);
     zeros::clear(an);
     zeros::clear(bp);
     zeros::clear(bn);
-    let o = inputs::read_order(text, ap, an, bp, bn, work)?;
-    merge_read(o, ap, an, bp, bn, planes, nodes, out, work)
+    match inputs::read_order(text, ap, an, bp, bn, work) {
+        Ok(o) => merge_read(o, ap, an, bp, bn, planes, nodes, out, work),
+        Err(l) => refuse(l.refusal, out),
+    }
 }
 
 // The merge of a text, with a work table that is long enough.
@@ -58,7 +59,6 @@ pub fn merge_lent(text: &[u8], out: &mut [u8], work: &mut [i64]) -> Result<usize
     requires { WorkIn work.old }
     ensures { WithTold merging text.now out.old out.new (numbered result) }
 {
-    zeros::clear(out);
     let mut ap = [0i64; 4 * Solid::MOST_PLANES];
     let mut an = [0u16; 3 * Solid::MOST_NODES];
     let mut bp = [0i64; 4 * Solid::MOST_PLANES];

@@ -1,10 +1,9 @@
-// The normal form of a text, step by step: the solid is read into tables, its form is put out into tables, and written. A step that refuses
-// leaves the text as it was, zeros.
+// The normal form of a text, step by step: the solid is read into tables, its form is put out into tables, and written.
 ghost use Rattle.refusals.specs.Numbers.{numbered};
 ghost use Rattle.texts.specs.Answers.{forming};
 ghost use Rattle.texts.specs.Steps.{SolidIn, ResultIn, WorkIn, FormIn, SolidFormed, WithTold};
 
-use outputs::{rows_of, written};
+use outputs::{refuse, rows_of, written};
 use refusals::Refusal;
 use tables::Solid;
 
@@ -18,11 +17,11 @@ pub fn normal_read(
     out: &mut [u8],
     work: &mut [i64],
 ) -> Result<usize, Refusal>
-    requires { FormIn a ap.now an.now planes.old nodes.old out.old work.old }
+    requires { FormIn a ap.now an.now planes.old nodes.old work.old }
     ensures { SolidFormed a ap.now an.now out.old out.new (numbered result) }
 {
-    let s = forms::normal(&rows_of(a, ap, an), planes, nodes, work)?;
-    written(s, planes, nodes, out, work)
+    let m = forms::normal(&rows_of(a, ap, an), planes, nodes, work);
+    written(m, planes, nodes, out, work)
 }
 
 // The normal form of a text, with tables lent for the solid and for its form.
@@ -35,11 +34,13 @@ pub fn normal_with(
     out: &mut [u8],
     work: &mut [i64],
 ) -> Result<usize, Refusal>
-    requires { SolidIn ap.old an.old × ResultIn planes.old nodes.old out.old work.old }
+    requires { SolidIn ap.old an.old × ResultIn planes.old nodes.old work.old }
     ensures { WithTold forming text.now out.old out.new (numbered result) }
 {
-    let a = solids::read(text, ap, an, work)?;
-    normal_read(a, ap, an, planes, nodes, out, work)
+    match solids::read(text, ap, an, work) {
+        Ok(a) => normal_read(a, ap, an, planes, nodes, out, work),
+        Err(l) => refuse(l.refusal, out),
+    }
 }
 
 // The normal form of a text, with a work table that is long enough.
@@ -47,7 +48,6 @@ pub fn normal_lent(text: &[u8], out: &mut [u8], work: &mut [i64]) -> Result<usiz
     requires { WorkIn work.old }
     ensures { WithTold forming text.now out.old out.new (numbered result) }
 {
-    zeros::clear(out);
     let mut ap = [0i64; 4 * Solid::MOST_PLANES];
     let mut an = [0u16; 3 * Solid::MOST_NODES];
     let mut planes = [0i64; 2 * 4 * Solid::MOST_PLANES]; // as for a merge

@@ -6,8 +6,6 @@ use Rattle.std.specs.Prelude.{◌≡◌, refl, Bool, true, false, cond, List, �
 use Rattle.std.proofs.Common.{sym, ap, subst, ◌∙◌, arith, le-leb}
 use Rattle.std.proofs.Math.Seq.{take-append_seam}
 use Rattle.whole.specs.Tests.{differ}
-use Rattle.refusals.specs.declared.Refusal.{Refusal}
-use Rattle.refusals.specs.Numbers.{numbered, numbered_unique}
 use Rattle.scope.specs.Limits.{stated}
 use Rattle.scope.specs.Planes.{Point}
 use Rattle.scope.specs.Solids.{Tree, planes, Tables, tables_of, answer as answers}
@@ -48,10 +46,10 @@ one_answer : (job : Job) (t : List ℕ) (room : ℕ) (q r : Answer (List ℕ)) �
 one_answer merging t room = one_merge
 one_answer forming t room = one_form
 
-pub text_told_unique : {job : Job} {t out out' out'' : List ℕ} {w w' w'' : List ℤ} {i j : Result ℕ Refusal} → TextTold job t out out' w w' (numbered i) → TextTold job t out out'' w w'' (numbered j) → (i ≡ j) × (out' ≡ out'') × (w' ≡ w'')
+pub text_told_unique : {job : Job} {t out out' out'' : List ℕ} {w w' w'' : List ℤ} {i j : Result ℕ ℕ} → TextTold job t out out' w w' i → TextTold job t out out'' w w'' j → (i ≡ j) × (out' ≡ out'') × (w' ≡ w'')
 text_told_unique {job} {t} {out} h k =
     let e : h.answer ≡ k.answer = with_unique (one_answer job t (length out)) h.exact k.exact in
-    (numbered_unique (h.told ∙ ap wrote e ∙ sym k.told), h.text ∙ ap (left 0 (length out) itself) e ∙ sym k.text, h.work ∙ sym k.work)
+    (h.told ∙ ap wrote e ∙ sym k.told, h.text ∙ ap (left 0 (length out) itself) e ∙ sym k.text, h.work ∙ sym k.work)
 
 -- ---- what the programs print
 

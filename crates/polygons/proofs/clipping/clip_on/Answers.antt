@@ -34,9 +34,14 @@ emit-m-requires c =
     let q : length o.new.sides ≡ c.args.n = o.auto.sides ∙ length-take-le c.args.n _ (omega (arith, clip_n _ _ _ _ _ _ _ c.requires)) in
     clip_emit _ _ _ _ _ _ _ c.requires c.bound-h.result c.bound-h.ensures o.new.sides q o.result o.ensures
 
+pub copy-requires : goal.copy-requires
+copy-requires c =
+    let u = c.emit-m in
+    (omega (arith, u.ensures.few, u.auto.out, c.requires.out_room), omega (arith, u.ensures.few, c.requires.room))
+
 pub returns : goal.returns
 returns c =
     let o = c.sides_of in
     let u = c.emit-m in
     let q : length o.new.sides ≡ c.args.n = o.auto.sides ∙ length-take-le c.args.n _ (omega (arith, clip_n _ _ _ _ _ _ _ c.requires)) in
-    rw c.copy_from_slice.ensures.after (clip_cut _ _ _ _ _ _ _ c.requires c.bound-h.result c.bound-h.ensures o.new.sides q o.result o.ensures u.new.out u.result u.ensures (omega (arith, u.auto.out, c.requires.out_room)))
+    clip_cut _ _ _ _ _ _ _ c.requires c.bound-h.result c.bound-h.ensures o.new.sides q o.result o.ensures u.new.out c.copy.new.to u.result u.ensures c.copy.auto.to c.copy.ensures

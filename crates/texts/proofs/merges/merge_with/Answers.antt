@@ -1,8 +1,6 @@
 -- `texts::merges::merge_with` meets its contract: the order is refused, or merged (proofs/TextMerge). Assumes nothing.
 use mathlib.Core.Path.{◌∙◌}
-use Rattle.std.proofs.Common.{◌≡◌, ℕ, arith, rules}
-use Rattle.std.specs.Prelude.{Result, Err}
-use Rattle.refusals.specs.declared.Refusal.{Refusal}
+use Rattle.std.proofs.Common.{arith, rules}
 use lib.IntN.{pos}
 use Rattle.zeros.proofs.Fill.{cleared}
 use Rattle.texts.proofs.TextMerge.{order_refused, order_held, order_merged}
@@ -22,18 +20,15 @@ read_order-requires c =
       b_blank = record { planes = cleared (pos 0) a.bp.now c.clear-3.new.t c.clear-3.ensures; nodes = cleared 0 a.bn.now c.clear-4.new.t c.clear-4.ensures; work = h.zeros };
     }
 
-pub returns-in_err-o : goal.returns-in_err-o
-returns-in_err-o c =
-    let n = c.read_order.new in
-    let f : ◌≡◌ {A = Result ℕ Refusal} c.from_residual.result (Err c.in_err-o.field-0.0.refusal) = search rules in
-    rw f (order_refused n.a_planes n.a_nodes n.b_planes n.b_nodes c.requires.result.blank c.in_err-o.ensures)
-
 pub merge_read-requires : goal.merge_read-requires
 merge_read-requires c =
     let h = c.requires in
     let r = h.result in
-    let q = order_held c.in_ok-o.ensures in
-    record { first = q.0; second = q.1; result = record { planes = r.planes; nodes = r.nodes; blank = r.blank; enough = omega (arith, r.enough, c.read_order.auto.work) } }
+    let q = order_held c.in-Ok.ensures in
+    record { first = q.0; second = q.1; result = record { planes = r.planes; nodes = r.nodes; enough = omega (arith, r.enough, c.read_order.auto.work) } }
 
-pub returns : goal.returns
-returns c = order_merged c.in_ok-o.ensures c.merge_read.ensures
+pub returns-in-Ok : goal.returns-in-Ok
+returns-in-Ok c = order_merged c.in-Ok.ensures c.merge_read.ensures
+
+pub returns-in-Err : goal.returns-in-Err
+returns-in-Err c = let h = c.in-Err.ensures in search (rules, order_refused)

@@ -1,15 +1,12 @@
--- `lists::JoinedList::of` meets its contract. The invariant: the planes before A's and B's next ones are joined. Assumes nothing.
+-- `lists::JoinedList::join` meets its contract. The invariant: the planes before A's and B's next ones are joined. Assumes nothing.
 use mathlib.Core.Path.{refl}
-use Prim.Native.Nat.{ℕ}
 use native.Mathlib.Omega.{arith}
-use lib.IntN.{pos}
-use lib.ListN.{length-replicate}
 use Rattle.lists.proofs.Joins.{none_joined, list_few, list_rising, all_joined}
-use Rattle.lists.proofs.JoinedList.of.Goals as goal
-use Rattle.lists.proofs.JoinedList.of.Goals.{then-t-a, else-t-a+then-t-b}
+use Rattle.lists.proofs.JoinedList.join.Goals as goal
+use Rattle.lists.proofs.JoinedList.join.Goals.{then-t-a, else-t-a+then-t-b}
 
 pub loop-t-init : goal.loop-t-init
-loop-t-init c = none_joined c.args.a.now c.args.b.now _ (length-replicate 512 (pos 0)) (length-replicate {A = ℕ} 128 0) refl
+loop-t-init c = none_joined c.args.a.now c.args.b.now _ (omega arith) (omega arith) refl
 
 pub take-t-requires : goal.take-t-requires
 take-t-requires c =
@@ -27,4 +24,4 @@ take-t-requires c =
 pub returns : goal.returns
 returns c =
     let l = c.loop-t in
-    all_joined c.args.a.now c.args.b.now l.list l.t.a l.t.b (omega (arith, c.if-t-a.false)) (omega (arith, c.if-t-b.false)) l.invariant
+    all_joined c.args.a.now c.args.b.now l.self l.t.a l.t.b (omega (arith, c.if-t-a.false)) (omega (arith, c.if-t-b.false)) l.invariant
