@@ -10,7 +10,8 @@
 --     pushed_before, pushed_row, pushed_linked   one row more: the rows before it, its half-space and its link
 --     on_same, on_push           a table with the same rows, and one row more
 --     path_asked, cut_asked, missed_asked   what `parallel`, `cut` and `missed` are given
---     on_inside                  a point of the cell is in front of each row
+--     rows_inside                a point of the cell is in front of each row
+--     front_misses, behind_misses   a plane on one side of which a row keeps the cell does not cut it
 --     classified_front, classified_behind   the answer, from a parallel half-space
 --     classified_cut, classified_missed     and from that of `cut`
 use mathlib.Core.Path.{◌≡◌, refl, sym, ap, subst, ◌∙◌}
@@ -34,7 +35,7 @@ use Rattle.whole.specs.Sign.{Sign, nought, sgn}
 use Rattle.whole.specs.Bounds.{w_neg}
 use Rattle.whole.specs.Members.{◌∈◌, in_left, in_right}
 use Rattle.scope.specs.Planes.{Plane, Point, at, flip, in_range, lead, equal, Lawful}
-use Rattle.whole.specs.Order.{◌⋖◌}
+use Rattle.whole.specs.Order.{◌⋖◌, pos_not_zero, neg_not_zero}
 use Rattle.scope.proofs.Points.{flip_back}
 use Rattle.scope.specs.Cells.{Inside, box, Cuts, AllFront}
 use Rattle.theory.specs.Cells.Box.{box_means}
@@ -261,21 +262,30 @@ missed_asked {p} l (below h s g k e w n) r =
 -- ---- a parallel half-space
 
 -- a point of the cell is in front of each row, and has a w above 0
-on_inside : {path : List ℤ} {d : ℕ} {c : List Plane} → OnPath Lawful path d c → {X : Point} → Inside c X → (pos 0 ⋖ X.w) × ((i : ℕ) → i < d → pos 0 ⋖ at (row path 9 i) X)
-on_inside {path} {d} {c} h {X} i =
-    let w = subst (λ l. Inside l X) (on_rows h) i in
-    ((box_means X (record { each = λ q m. w.each q (in_right (rows_down path 9 d) m) })).weight, λ j b. w.each (row path 9 j) (in_left box (row_in path d j b)))
+rows_inside : (path : List ℤ) (d : ℕ) {X : Point} → Inside (rows_down path 9 d ++ box) X → (pos 0 ⋖ X.w) × ((i : ℕ) → i < d → pos 0 ⋖ at (row path 9 i) X)
+rows_inside path d {X} w = ((box_means X (record { each = λ q m. w.each q (in_right (rows_down path 9 d) m) })).weight, λ j b. w.each (row path 9 j) (in_left box (row_in path d j b)))
 
 -- the row that is asked, and its half-space
+module _ {path : List ℤ} (d : ℕ) {end from end' : ℕ} (r : AsksRow path end from end') (l : end ≤ d * 9) {h : Plane} (e : h ≡ four_at path from) where
+  -- a plane on one side of which a row keeps the cell does not cut it, whatever planes stand on the path
+  held_front : {q : Plane} → Holds q h → {X : Point} → Inside (rows_down path 9 d ++ box) X → pos 0 ⋖ at q X
+  held_front {q} f {X} n = let w = rows_inside path d n in holds_front (subst (Holds q) (e ∙ four_is path r.i r.begins) f) X w.0 (w.1 r.i (omega (arith, r.begins, r.ends, l)))
+
+  pub front_misses : {p : Plane} → Holds p h → ¬ Cuts p (rows_down path 9 d ++ box)
+  front_misses f n = pos_not_zero (held_front f n.inside) n.on
+
+  pub behind_misses : {p b : Plane} → b ≡ flip p → Holds b h → ¬ Cuts p (rows_down path 9 d ++ box)
+  behind_misses {p} g f n = neg_not_zero (flip_back p n.point (held_front (subst (λ q. Holds q h) g f) n.inside)) n.on
+
 module _ {path : List ℤ} {d end from end' : ℕ} (r : AsksRow path end from end') (l : end ≤ d * 9) {h : Plane} (e : h ≡ four_at path from) where
-  held_front : {q : Plane} → Holds q h → {c : List Plane} → OnPath Lawful path d c → AllFront q c
-  held_front {q} f o X n = let w = on_inside o n in holds_front (subst (Holds q) (e ∙ four_is path r.i r.begins) f) X w.0 (w.1 r.i (omega (arith, r.begins, r.ends, l)))
+  found_front : {q : Plane} → Holds q h → {c : List Plane} → OnPath Lawful path d c → AllFront q c
+  found_front f o X n = held_front d r l e f (subst (λ s. Inside s X) (on_rows o) n)
 
   pub classified_front : {p : Plane} → Holds p h → ClassifiedIn p path d Front
-  classified_front f c o = is_front (held_front f o)
+  classified_front f c o = is_front (found_front f o)
 
   pub classified_behind : {p b : Plane} → b ≡ flip p → Holds b h → ClassifiedIn p path d Behind
-  classified_behind {p} g f c o = is_behind (λ X n. flip_back p X (held_front (subst (λ q. Holds q h) g f) o X n))
+  classified_behind {p} g f c o = is_behind (λ X n. flip_back p X (found_front (subst (λ q. Holds q h) g f) o X n))
 
 -- ---- the answer of `cut`
 
