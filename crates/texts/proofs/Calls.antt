@@ -15,8 +15,6 @@ use Rattle.scope.specs.Solids.{Tables}
 use Rattle.scope.specs.Answers.{Answer, given, refused, plane_numbers, node_numbers, left, WithWork, short_work, enough_work}
 use Rattle.theory.specs.Text.Trees.{LawfulTables}
 use Rattle.std.specs.Prelude.{Result}
-use Rattle.refusals.specs.declared.Refusal.{Refusal}
-use Rattle.refusals.specs.Numbers.{number, numbered}
 use Rattle.tables.specs.declared.Solid.{Solid}
 use Rattle.results.specs.Results.{Asked, Told}
 use Rattle.outputs.specs.Outputs.{Refuses, Outcome, Gave}
@@ -30,5 +28,5 @@ result_gave h l lx ln = record { told = h.told; planes = h.planes ∙ ap (λ n. 
 
 -- ---- a refusal
 
-pub refusal_told : {e : Refusal} {out out' : List ℕ} {r : Result ℕ Refusal} → Refuses e out out' r → Outcome (refused (number e)) out out' (numbered r)
-refusal_told {out = out} h = record { told = ap numbered h.number; text = h.text ∙ ap (λ n. replicate {A = ℕ} n 0) {x = length out} {y = length out - 0} (omega arith) }
+pub refusal_told : {k : ℕ} {out out' : List ℕ} {r : Result ℕ ℕ} → Refuses k out out' r → Outcome (refused k) out out' r
+refusal_told {out = out} h = record { told = h.number; text = h.text ∙ ap (λ n. replicate {A = ℕ} n 0) {x = length out} {y = length out - 0} (omega arith) }

@@ -1,5 +1,5 @@
 -- From a solid's text to its form's: the solid that stands in tables, its normal form, and what is written.
---     form_gave, forming_told        what the normal form gave is that of the solid, and is written
+--     formed_right, form_gave, forming_told   what the normal form gave is that of the solid, and is written
 --     solid_refused, solid_held, solid_formed   what comes of the text
 use mathlib.Core.Path.{◌≡◌, refl, sym, ap, subst, ◌∙◌}
 use mathlib.Core.Bool.{cond}
@@ -18,8 +18,6 @@ use Rattle.theory.specs.Answers.{sound_tables}
 use Rattle.theory.specs.Text.Judge.{judge_read}
 use Rattle.tables.specs.declared.Solid.{Solid}
 use Rattle.std.specs.Prelude.{Result, Ok, Err}
-use Rattle.refusals.specs.declared.Refusal.{Refusal}
-use Rattle.refusals.specs.Numbers.{number, numbered}
 use Rattle.lines.specs.Reading.{rooms}
 use Rattle.solids.specs.Reading.{judgement, ReadTold}
 use Rattle.solids.specs.Follows.{read_given}
@@ -35,7 +33,7 @@ use Rattle.texts.proofs.Calls.{from_work, result_gave, refusal_told}
 -- ---- the form's answer
 
 module _ {s : Solid} {pa : List ℤ} {na : List ℕ} (a : Holds s pa na) {ya : List ℤ} {ma : List ℕ} {ra : ℕ} (la : RowsLent s pa na ya ma ra) {xs xs' : List ℤ} {ns ns' : List ℕ} {w w' : List ℤ} {m : Result Solid ℕ} (i : ResultIn xs ns w) (h : NormalTold ya ma ra xs xs' ns ns' w w' m) where
-  formed_right : FormBy program_rooms (accepted a.is) h.answer
+  pub formed_right : FormBy program_rooms (accepted a.is) h.answer
   formed_right = subst (λ x. x) (λ j. FormBy (record { plane_rows = plane_rows j; node_rows = node_rows j }) (rows_lent s pa na la a.is a.lawful a.held j) h.answer) (from_work i.enough h.exact)
     where
       plane_rows : length xs / 4 ≡ 128
@@ -89,5 +87,5 @@ module _ {t : List ℕ} {xs xs' : List ℤ} {ns ns' : List ℕ} {w w' : List ℤ
     pub solid_formed : (lx : length xs' ≡ length xs) (ln : length ns' ≡ length ns) → {out out' : List ℕ} {r : Result ℕ ℕ} → SolidFormed s xs' ns' out out' r → WithTold forming t out out' r
     solid_formed lx ln {out} f = let g = f (solid_held lx ln) in record { answer = in_room (length out) g.answer; exact = formed_text (subst (λ v. FormBy program_rooms v g.answer) (sym accepts) g.exact); outcome = g.outcome }
 
-pub solid_refused : {t : List ℕ} {xs xs' : List ℤ} {ns ns' : List ℕ} {w w' : List ℤ} {e : Refusal} {l : ℕ} {out out' : List ℕ} {r : Result ℕ Refusal} → ReadTold t xs xs' ns ns' w w' (Err (number e, l)) → Refuses e out out' r → SolidIn xs ns → stated ≤ length w → WithTold forming t out out' (numbered r)
-solid_refused {e = e} h f i enough = record { answer = refused (number e); exact = formed_text {r = refused (number e)} (scope.solid_refused (refuses i enough h refl)); outcome = refusal_told f }
+pub solid_refused : {t : List ℕ} {xs xs' : List ℤ} {ns ns' : List ℕ} {w w' : List ℤ} {k l : ℕ} {out out' : List ℕ} {r : Result ℕ ℕ} → ReadTold t xs xs' ns ns' w w' (Err (k, l)) → Refuses k out out' r → SolidIn xs ns → stated ≤ length w → WithTold forming t out out' r
+solid_refused {k = k} h f i enough = record { answer = refused k; exact = formed_text {r = refused k} (scope.solid_refused (refuses i enough h refl)); outcome = refusal_told f }

@@ -1,5 +1,5 @@
 -- From an order to its text: the solids that stand in tables, their merge, and what is written.
---     merge_gave, merging_told       what the merge gave is that of the two solids, and is written
+--     merged_right, merge_gave, merging_told   what the merge gave is that of the two solids, and is written
 --     order_refused, order_held, order_merged   what comes of the text
 use mathlib.Core.Path.{◌≡◌, subst}
 use mathlib.Core.List.{List}
@@ -14,8 +14,6 @@ use Rattle.theory.specs.Answers.{sound_tables}
 use Rattle.theory.specs.Text.MergeInput.{merge_read}
 use Rattle.tables.specs.declared.Solid.{Solid}
 use Rattle.std.specs.Prelude.{Result}
-use Rattle.refusals.specs.declared.Refusal.{Refusal}
-use Rattle.refusals.specs.Numbers.{number, numbered}
 use Rattle.merging.specs.Promises as merge
 use Rattle.inputs.specs.declared.Order.{Order}
 use Rattle.inputs.specs.Orders.{OrderHeld}
@@ -30,7 +28,7 @@ use Rattle.texts.proofs.Calls.{from_work, result_gave, refusal_told}
 
 module _ {op : ℕ} {s u : Solid} {pa : List ℤ} {na : List ℕ} {pb : List ℤ} {nb : List ℕ} (a : Holds s pa na) (b : Holds u pb nb) {ya yb : List ℤ} {ma mb : List ℕ} {ra rb : ℕ} (la : RowsLent s pa na ya ma ra) (lb : RowsLent u pb nb yb mb rb)
     {xs xs' : List ℤ} {ns ns' : List ℕ} {w w' : List ℤ} {m : Result Solid ℕ} (i : ResultIn xs ns w) (h : merge.MergeTold op ya ma ra yb mb rb xs xs' ns ns' w w' m) where
-  merged_right : MergeBy program_rooms op (accepted a.is) (accepted b.is) h.answer
+  pub merged_right : MergeBy program_rooms op (accepted a.is) (accepted b.is) h.answer
   merged_right = subst (λ x. x) (λ j. MergeBy (record { plane_rows = plane_rows j; node_rows = node_rows j }) op (rows_lent s pa na la a.is a.lawful a.held j) (rows_lent u pb nb lb b.is b.lawful b.held j) h.answer) (from_work i.enough h.exact)
     where
       plane_rows : length xs / 4 ≡ 128
@@ -47,8 +45,8 @@ module _ {op : ℕ} {s u : Solid} {pa : List ℤ} {na : List ℕ} {pb : List ℤ
 
 -- ---- the text
 
-pub order_refused : {t : List ℕ} {e : Refusal} {l : ℕ} {out out' : List ℕ} {r : Result ℕ Refusal} → judge_merge operand_rooms t ≡ judging.order_refused (number e) l → Refuses e out out' r → WithTold merging t out out' (numbered r)
-order_refused {e = e} h f = record { answer = refused (number e); exact = unread h; outcome = refusal_told f }
+pub order_refused : {t : List ℕ} {k l : ℕ} {out out' : List ℕ} {r : Result ℕ ℕ} → judge_merge operand_rooms t ≡ judging.order_refused k l → Refuses k out out' r → WithTold merging t out out' r
+order_refused {k = k} h f = record { answer = refused k; exact = unread h; outcome = refusal_told f }
 
 module _ {t : List ℕ} {pa : List ℤ} {na : List ℕ} {pb : List ℤ} {nb : List ℕ} {o : Order} (h : OrderHeld t pa na pb nb o.op o.a o.b) where
   abbrev pub order_held : Holds o.a pa na × Holds o.b pb nb

@@ -3,6 +3,7 @@ use mathlib.Core.Path.{◌∙◌}
 use Rattle.std.proofs.Common.{arith, rules}
 use lib.IntN.{pos}
 use Rattle.zeros.proofs.Fill.{cleared}
+use Rattle.outputs.proofs.Texts.{refuses_number}
 use Rattle.texts.proofs.TextMerge.{order_refused, order_held, order_merged}
 use Rattle.texts.proofs.merges.merge_with.Goals as goal
 
@@ -31,4 +32,4 @@ pub returns-in-Ok : goal.returns-in-Ok
 returns-in-Ok c = order_merged c.in-Ok.ensures c.merge_read.ensures
 
 pub returns-in-Err : goal.returns-in-Err
-returns-in-Err c = let h = c.in-Err.ensures in search (rules, order_refused)
+returns-in-Err c = let h = c.in-Err.ensures in search (rules, order_refused, refuses_number)

@@ -1,6 +1,7 @@
 -- `texts::normals::normal_with` meets its contract: the solid is refused, or put into its form (proofs/TextForm). Assumes nothing.
 use mathlib.Core.Path.{refl}
 use Rattle.std.proofs.Common.{arith, rules}
+use Rattle.outputs.proofs.Texts.{refuses_number}
 use Rattle.texts.proofs.TextForm.{solid_refused, solid_held, solid_formed}
 use Rattle.texts.proofs.normals.normal_with.Goals as goal
 
@@ -17,4 +18,4 @@ returns-in-Err c =
     let i = c.requires.0 in
     let e = c.requires.1.enough in
     let h = c.in-Err.ensures in
-    search (rules, solid_refused)
+    search (rules, solid_refused, refuses_number)
